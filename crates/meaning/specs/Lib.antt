@@ -1,0 +1,11 @@
+pub mod Plain
+pub mod Keywords
+pub mod Words
+pub mod Grammar
+pub mod Statements
+pub mod Sizes
+pub mod Names
+pub mod Permissions
+pub mod Sets
+pub mod Coverage
+pub mod Expressions
