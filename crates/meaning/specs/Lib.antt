@@ -9,3 +9,13 @@ pub mod Permissions
 pub mod Sets
 pub mod Coverage
 pub mod Expressions
+pub mod Policy
+pub mod Rules
+pub mod Contradictions
+pub mod Neverallow
+pub mod Refusals
+pub mod Contexts
+pub mod Access
+pub mod Computed
+pub mod Questions
+pub mod Load
