@@ -1,6 +1,6 @@
 -- "Access answers three masks and the permissive flag of the source type."
 -- Each bit is said by itself; a mask is the number that its bits make.
-use Prim.Native.Nat.{ℕ, zero, suc, _+_, _*_}
+use Prim.Native.Nat.{ℕ, zero, suc, _+_, _*_, _/_, _%_, _^_}
 use mathlib.Core.Bool.{Bool, true, false, not, _&&_, _||_}
 use mathlib.Core.List.{List, [], _∷_}
 use lib.Dec.{eqb, ltb}
@@ -93,6 +93,10 @@ allows p (suc left) s t c i =
 unfoldable pub number : List Bool → ℕ
 number [] = 0
 number (b ∷ bs) = number bs * 2 + (if b then 1 else 0)
+
+-- bit i of a mask
+abbrev pub bitOf : ℕ → ℕ → Bool
+bitOf x i = eqb (x / 2 ^ i % 2) 1
 
 -- the mask of those permissions of a class with n of them of which f holds
 unfoldable pub mask : ℕ → (ℕ → Bool) → ℕ

@@ -44,6 +44,15 @@ switch p x v =
     then record { number = accepted; policy = withBools p (set (p .bools) x v) }
     else record { number = noBoolean; policy = p }
 
+-- a run of switch calls, refused ones included
+pub record Call : Type 0 where
+  pub bool : List ℕ
+  pub on : Bool
+
+unfoldable pub afterCalls : Policy → List Call → Policy
+afterCalls p [] = p
+afterCalls p (c ∷ cs) = afterCalls (switch p (c .bool) (c .on) .policy) cs
+
 -- ---- permission number: 13, 17
 pub record Numbered : Type 0 where
   pub number : ℕ
