@@ -1,2 +1,4 @@
 pub mod Opened
+pub mod Spelling
+pub mod Cases
 pub mod Grouping
