@@ -1,0 +1,4 @@
+pub mod Texts
+pub mod Left
+pub mod Viable
+pub mod Reading
