@@ -1,4 +1,12 @@
+-- In reading order.
+-- what the definitions compute: every word's kind, the starred cases
 pub mod Opened
 pub mod Spelling
 pub mod Cases
+-- refusal 3: texts of a grammar, one word, many words, the reading of a text
+pub mod Texts
+pub mod Left
+pub mod Viable
+pub mod Reading
+-- expressions are kept as they group
 pub mod Grouping

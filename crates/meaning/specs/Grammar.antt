@@ -5,7 +5,8 @@
 --   w "class"     the word of that spelling;  `name` an identifier that is no keyword
 --   a · b         a text of a, then one of b;  a / b  one of either;  plus, star, opt  once or more, any number, once or not at all
 --   In g ks       ks, kinds of words, are a text of g
---   left g k      what is left of g behind a word of kind k: `none` just where no text of g begins with it (proofs/Viable.antt)
+--   left g k      what is left of g behind a word of kind k. Of `policy`, behind any words, it is `none` just where no text begins with
+--                 them (proofs/Viable.antt)
 use Prim.Native.Nat.{ℕ, zero, suc}
 use Prim.Native.String.{String}
 use mathlib.Core.Bool.{Bool, true, false, _&&_, _||_}
@@ -17,7 +18,6 @@ use Rattle.meaning.specs.Keywords.{spelt, kName}
 
 infixr 60 _·_
 infixr 50 _/_
-
 -- ---- grammars: nothing, the empty text, a word, one after the other, one or the other, any number of times, a rule by number
 pub data G : Type 0 where
   none : G
@@ -218,6 +218,6 @@ unfoldable pub leftIn : ℕ → G → ℕ → G
 leftIn zero g k = leftBy (λ i j. none) g k
 leftIn (suc n) g k = leftBy (λ i j. leftIn n (rule i) j) g k
 
--- three deep: policy, section 4, branchRule
+-- at the deepest, a section begins with a rule that may stand in an if
 unfoldable pub left : G → ℕ → G
-left g k = leftIn 3 g k
+left g k = leftIn 2 g k
