@@ -97,7 +97,7 @@ head-all q h (alt a b) = both-of (headBy q a) (headBy q b) (head-all q h a) (hea
 head-all q h (star a) = head-all q h a
 head-all q h (nt i) = h i
 
--- any grammar over these rules: each rule begins with rules at most two deep
+-- any grammar over these rules: a rule begins with rules at most one deep
 deep-enough : (g : G) → heads 2 g ≡ true
 unfolding heads headBy rule rules nullable
 deep-enough g = head-all (λ i. heads 1 (rule i)) (λ i. each-rule (heads 1) refl refl i) g
