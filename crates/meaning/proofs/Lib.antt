@@ -10,3 +10,6 @@ pub mod Viable
 pub mod Reading
 -- expressions are kept as they group
 pub mod Grouping
+-- lists, and what a load rests on
+pub mod Lists
+pub mod Accepted
