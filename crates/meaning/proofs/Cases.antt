@@ -1,4 +1,5 @@
--- The starred cases of "The small station policy", computed from their texts: one list, one statement.
+-- The starred cases of "The small station policy", computed from their texts: one list, one statement. And the errors that are
+-- easily made, each with a text on which it shows: another list.
 -- Assumes nothing.
 use Prim.Native.Nat.{ℕ}
 use Prim.Native.String.{String}
@@ -81,6 +82,41 @@ cases =
     ∷ loads [] 3 0
     ∷ []
 
+-- ---- errors easily made
+pub easy : List Case
+easy =
+    -- testing neverallow with default booleans only: the allow stands in the else branch of an if that is off, then on
+    breaks (textWith "if (service) { } else { allow lamp_t target_t : profile retire; }\nneverallow * * : profile retire;\n" "")
+      "lamp_t" "target_t" "profile" "retire"
+    ∷ breaks (textWith "if (!service) { } else { allow lamp_t target_t : profile retire; }\nneverallow * * : profile retire;\n" "")
+      "lamp_t" "target_t" "profile" "retire"
+    -- letting a constrain excuse a clash: this one is never true
+    ∷ breaks (textWith "neverallow bench * : profile read;\n" "constrain profile read (u1 == u2 and u1 != u2);\n") "lamp_t" "target_t" "profile" "read"
+    -- taking `*` with `self` as all pairs
+    ∷ loads (textWith "neverallow * self : profile read;\n" "") 0 0
+    -- applying `-` in list order
+    ∷ loads (textWith "neverallow { -proof_t bench } target_t : profile write;\n" "") 0 0
+    -- ending a comment at a CR
+    ∷ loads (bytes "# a comment\r}\n" ++ textWith "" "") 0 0
+    -- taking source for target in a constrain
+    ∷ gives (textWith "" "constrain profile read (t1 == proof_t and t2 == target_t and r2 == object_r and r1 == op_r);\n") false
+      proof target "profile" 0 1 0 7
+    ∷ gives (textWith "" "constrain profile read (t2 == proof_t or t1 == target_t or r1 == object_r or r2 == op_r);\n") false
+      proof target "profile" 0 0 0 7
+    -- a bit of auditdeny past the class's
+    ∷ gives (textWith "dontaudit { proof_t target_t } target_t : profile ~read;\nauditallow bench self : profile *;\n" "") false
+      proof target "profile" 0 1 0 1
+    -- a permission of one class taken for another's: 5 where a class named has it not, 4 where the name is of another kind
+    ∷ loads (textWith "allow bench target_t : { profile process } read;\n" "") 5 409
+    ∷ loads (textWith "allow op_r target_t : profile read;\n" "") 4 372
+    -- leaving out a section that must be there: 1, 3, 4, 5
+    ∷ loads (bytes "class k { p }\ntype a;\nuser u roles object_r;\n") 3 8
+    ∷ loads (bytes "class k\ntype a;\nuser u roles object_r;\n") 3 8
+    ∷ loads (bytes "class k\nclass k { p }\nuser u roles object_r;\n") 3 22
+    ∷ loads (bytes "class k\nclass k { p }\ntype a;\n") 3 30
+    ∷ loads (bytes "class k\nclass k { p }\ntype a;\nuser u roles object_r;\n") 0 0
+    ∷ []
+
 -- ---- the test
 isAnswer : Answer → ℕ → ℕ → ℕ → ℕ → Bool
 isAnswer a n x y z = eqb (a .number) n && eqb (a .allowed) x && eqb (a .auditallow) y && eqb (a .auditdeny) z && eqb (a .permissive) 0
@@ -111,3 +147,7 @@ holdsOf (creates x y c room n out) =
 pub every-case : T (every holdsOf cases)
 unfolding opened textWith cases isAnswer isOutput isLoad isClash withService holdsOf
 every-case = tt
+
+pub every-easy : T (every holdsOf easy)
+unfolding opened textWith easy isAnswer isOutput isLoad isClash withService holdsOf
+every-easy = tt
