@@ -6,17 +6,15 @@ use Prim.Native.String.{String}
 use mathlib.Core.Bool.{Bool, true, false, _&&_}
 use mathlib.Core.List.{List, [], _∷_, _++_}
 use lib.Dec.{T, eqb}
-use lib.ListN.{getD, replicate}
+use lib.ListN.{replicate}
 use Rattle.meaning.specs.Plain.{if_then_else_, every, sameBytes}
 use Rattle.meaning.specs.Keywords.{bytes}
-use Rattle.meaning.specs.Permissions.{Name, Class}
-use Rattle.meaning.specs.Policy.{TypeEntry, Policy}
-use Rattle.meaning.specs.Contexts.{nameless, typeAt, classAt}
+use Rattle.meaning.specs.Policy.{Policy}
 use Rattle.meaning.specs.Neverallow.{Clash}
 use Rattle.meaning.specs.Access.{Answer, access}
 use Rattle.meaning.specs.Computed.{Text, compute, create, outputOf}
 use Rattle.meaning.specs.Questions.{switch}
-use Rattle.meaning.specs.Load.{Loaded, load}
+use Rattle.meaning.specs.Load.{Loaded, load, clashNames}
 use Rattle.meaning.proofs.Opened.{opened}
 
 -- ---- the text: `added` goes behind the if, and the constrain is there or not
@@ -87,9 +85,9 @@ pub easy : List Case
 easy =
     -- testing neverallow with default booleans only: the allow stands in the else branch of an if that is off, then on
     breaks (textWith "if (service) { } else { allow lamp_t target_t : profile retire; }\nneverallow * * : profile retire;\n" "")
-      "lamp_t" "target_t" "profile" "retire"
+    "lamp_t" "target_t" "profile" "retire"
     ∷ breaks (textWith "if (!service) { } else { allow lamp_t target_t : profile retire; }\nneverallow * * : profile retire;\n" "")
-      "lamp_t" "target_t" "profile" "retire"
+    "lamp_t" "target_t" "profile" "retire"
     -- letting a constrain excuse a clash: this one is never true
     ∷ breaks (textWith "neverallow bench * : profile read;\n" "constrain profile read (u1 == u2 and u1 != u2);\n") "lamp_t" "target_t" "profile" "read"
     -- taking `*` with `self` as all pairs
@@ -100,12 +98,12 @@ easy =
     ∷ loads (bytes "# a comment\r}\n" ++ textWith "" "") 0 0
     -- taking source for target in a constrain
     ∷ gives (textWith "" "constrain profile read (t1 == proof_t and t2 == target_t and r2 == object_r and r1 == op_r);\n") false
-      proof target "profile" 0 1 0 7
+    proof target "profile" 0 1 0 7
     ∷ gives (textWith "" "constrain profile read (t2 == proof_t or t1 == target_t or r1 == object_r or r2 == op_r);\n") false
-      proof target "profile" 0 0 0 7
+    proof target "profile" 0 0 0 7
     -- a bit of auditdeny past the class's
     ∷ gives (textWith "dontaudit { proof_t target_t } target_t : profile ~read;\nauditallow bench self : profile *;\n" "") false
-      proof target "profile" 0 1 0 1
+    proof target "profile" 0 1 0 1
     -- a permission of one class taken for another's: 5 where a class named has it not, 4 where the name is of another kind
     ∷ loads (textWith "allow bench target_t : { profile process } read;\n" "") 5 409
     ∷ loads (textWith "allow op_r target_t : profile read;\n" "") 4 372
@@ -118,6 +116,12 @@ easy =
     ∷ []
 
 -- ---- the test
+sameLists : List (List ℕ) → List (List ℕ) → Bool
+sameLists [] [] = true
+sameLists [] (y ∷ ys) = false
+sameLists (x ∷ xs) [] = false
+sameLists (x ∷ xs) (y ∷ ys) = sameBytes x y && sameLists xs ys
+
 isAnswer : Answer → ℕ → ℕ → ℕ → ℕ → Bool
 isAnswer a n x y z = eqb (a .number) n && eqb (a .allowed) x && eqb (a .auditallow) y && eqb (a .auditdeny) z && eqb (a .permissive) 0
 
@@ -127,11 +131,8 @@ isOutput t out n x = eqb (t .number) n && sameBytes (outputOf t out) x
 isLoad : Loaded → ℕ → ℕ → Bool
 isLoad l n p = eqb (l .number) n && eqb (l .place) p
 
-isClash : Loaded → Policy → Clash → List ℕ → List ℕ → List ℕ → List ℕ → Bool
-isClash l p c w x y z =
-    eqb (l .number) 9 && eqb (l .place) (c .never) && sameBytes (typeAt p (c .source) .name .text) w
-    && sameBytes (typeAt p (c .target) .name .text) x && sameBytes (classAt p (c .class) .name .text) y
-    && sameBytes (getD (classAt p (c .class) .perms) (c .permission) nameless .text) z
+isClash : Loaded → List (List ℕ) → Bool
+isClash l ns = eqb (l .number) 9 && eqb (l .place) (l .clash .never) && sameLists (clashNames (l .policy) (l .clash)) ns
 
 -- the policy that a text loads, with the boolean `service` set
 withService : List ℕ → Bool → Policy
@@ -140,14 +141,14 @@ withService s on = switch (load s .policy) (bytes "service") on .policy
 pub holdsOf : Case → Bool
 holdsOf (gives s on x y c n a b d) = isLoad (load s) 0 0 && isAnswer (access (withService s on) (bytes x) (bytes y) (bytes c)) n a b d
 holdsOf (loads s n p) = isLoad (load s) n p
-holdsOf (breaks s w x y z) = let l = load s in isClash l (l .policy) (l .clash) (bytes w) (bytes x) (bytes y) (bytes z)
+holdsOf (breaks s w x y z) = isClash (load s) (bytes w ∷ bytes x ∷ bytes y ∷ bytes z ∷ [])
 holdsOf (creates x y c room n out) =
     isOutput (compute (load (textWith "" constrain) .policy) create (bytes x) (bytes y) (bytes c) room) (replicate room 0) n out
 
 pub every-case : T (every holdsOf cases)
-unfolding opened textWith cases isAnswer isOutput isLoad isClash withService holdsOf
+unfolding opened textWith cases isAnswer isOutput isLoad sameLists isClash withService holdsOf
 every-case = tt
 
 pub every-easy : T (every holdsOf easy)
-unfolding opened textWith easy isAnswer isOutput isLoad isClash withService holdsOf
+unfolding opened textWith easy isAnswer isOutput isLoad sameLists isClash withService holdsOf
 every-easy = tt

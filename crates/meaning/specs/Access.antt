@@ -72,7 +72,9 @@ roleAllowed p r r′ = any (λ a. holds (a .from) r && holds (a .to) r′) (p .r
 unfoldable pub rolesFit : Policy → Context → Context → ℕ → ℕ → Bool
 rolesFit p s t c i = not (isTransition (classAt p c) i) || eqb (s .role) (t .role) || roleAllowed p (s .role) (t .role)
 
--- ---- the allowed bits
+-- ---- "A bit is allowed when an allow in force covers it; and every constrain naming its class and permission is true (1 source,
+-- 2 target); and, for `transition` or `dyntransition` of class `process` between different roles, a role allow covers them; and, if the
+-- source type has a parent, .."
 -- what the source's own type is allowed, its parent not asked
 unfoldable pub ownAllows : Policy → Context → Context → ℕ → ℕ → Bool
 ownAllows p s t c i = covered p kAllow (s .type) (t .type) c i && unconstrained p s t c i && rolesFit p s t c i
@@ -94,7 +96,7 @@ unfoldable pub number : List Bool → ℕ
 number [] = 0
 number (b ∷ bs) = number bs * 2 + (if b then 1 else 0)
 
--- bit i of a mask
+-- bit i of a mask: what the promises speak of
 abbrev pub bitOf : ℕ → ℕ → Bool
 bitOf x i = eqb (x / 2 ^ i % 2) 1
 

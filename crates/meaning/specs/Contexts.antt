@@ -115,7 +115,8 @@ contextOf p s = named p (parts s)
 unfoldable pub printed : Policy → Context → List ℕ
 printed p c = userAt p (c .user) .name .text ++ (colon ∷ (roleAt p (c .role) .name .text ++ (colon ∷ typeAt p (c .type) .name .text)))
 
--- ---- what a question is about: source, target and class; or 11, 12, 13, in that order
+-- ---- "access, create, relabel and member check 10, 11, 12, 13": what a question is about, or the number in that order (10 comes with
+-- the table)
 pub data Asked : Type 0 where
   refusedWith : ℕ → Asked
   about : Context → Context → ℕ → Asked

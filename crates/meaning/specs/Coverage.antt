@@ -1,5 +1,6 @@
--- When a statement covers a source type, a target type, a class and a permission, each by its name. Access, contradictions and
--- neverallow rest on this; the rows of a policy are its expanded form (Rules), and proofs/Rows.antt has that they cover the same.
+-- When a statement covers a source type, a target type, a class and a permission, each by its name. This is the notion that the
+-- promises are stated with. The engine's rules and rows say the same in numbers (Rules, Neverallow, Access): that they cover the same
+-- is proofs/Rows.antt. It is asked of declared types, of classes, and of permissions of the class.
 -- Whether the statement is in force is another question: Access.
 use Prim.Native.Nat.{ℕ}
 use mathlib.Core.Bool.{Bool, _&&_, _||_}

@@ -88,7 +88,8 @@ abbrev pub constraintE : G
 constraintE = nt 10
 
 -- ---- pieces
--- "may each be one name or a braced list without commas; no list is empty"
+-- "X, the R of role allow and role_transition sources, `types`, `alias` and `roles`, CLASS and PERMS may each be one name or a braced
+-- list without commas; no list is empty. The T of a role_transition is an X."
 abbrev pub names : G
 names = name / list
 
@@ -113,7 +114,8 @@ perms = names / starred
 abbrev pub equality : G
 equality = w "==" / w "!="
 
--- "names, parentheses, `==` and `!=` (bind tightest), then `!`"; "No `!` follows `==` or `!=`."
+-- "names, parentheses, `==` and `!=` (bind tightest), then `!`"; "No `!` follows `==` or `!=`." "Parentheses may stand inside
+-- parentheses, as deep as Sizes allows."
 abbrev pub operand : G
 operand = name / w "(" · boolE · w ")"
 

@@ -2,7 +2,7 @@
 -- `u1 u2 r1 r2 t1 t2`."
 -- A word has a kind, which is a number: a bad byte, a name, one of the marks or one of the 38 keywords, counted through the two
 -- lists below. The order is ours: the keywords that begin a statement stand first, the type rules and the AV rules side by side.
--- The names of the kinds follow; proofs/Spelling.antt has that each is the kind of its spelling.
+-- The names of the kinds follow (k.. a kind; on later pages p.. a position, c.. what is counted, d.. what a name is declared as); proofs/Spelling.antt has that each is the kind of its spelling.
 use Prim.Native.Nat.{ℕ, _+_}
 use Prim.Native.String.{String, [] as ε, _∷_ as _◃_}
 use Prim.Native.Char.{code}

@@ -2,20 +2,21 @@
 -- first place in text order. Place is 0 for 1, 2 and success."
 use Prim.Native.Nat.{ℕ}
 use mathlib.Core.Bool.{Bool, true, false}
-use mathlib.Core.List.{List}
+use mathlib.Core.List.{List, [], _∷_}
 use lib.Dec.{ltb}
-use lib.ListN.{length}
+use lib.ListN.{getD, length}
 use Rattle.meaning.specs.Plain.{Spot, nowhere, at}
 use Rattle.meaning.specs.Words.{Word, wordsOf}
 use Rattle.meaning.specs.Sizes.{Verdict, fits, ungrammatical, oversize, readText}
 use Rattle.meaning.specs.Statements.{Statement, statementsOf}
 use Rattle.meaning.specs.Names.{declaredTwice, undeclared}
-use Rattle.meaning.specs.Permissions.{badPermission}
 use Rattle.meaning.specs.Sets.{Names, namesOf}
-use Rattle.meaning.specs.Policy.{Policy, noPolicy}
+use Rattle.meaning.specs.Permissions.{Name, Class, badPermission}
+use Rattle.meaning.specs.Policy.{TypeEntry, Policy, noPolicy}
 use Rattle.meaning.specs.Rules.{rulesOf, policyOf}
 use Rattle.meaning.specs.Contradictions.{contradiction}
 use Rattle.meaning.specs.Neverallow.{Clash, Search, kept, broken, neverBroken}
+use Rattle.meaning.specs.Contexts.{nameless, typeAt, classAt}
 use Rattle.meaning.specs.Refusals.{accepted, shortTable, longText, notGrammar, notDeclared, notPermission, declaredAgain, overSize, contradicts, neverallowBroken}
 
 abbrev pub textSize : ℕ
@@ -45,6 +46,7 @@ unfoldable pub unlessBroken : Search → Policy → Loaded
 unlessBroken kept p = record { number = accepted; place = 0; clash = noClash; policy = p }
 unlessBroken (broken c) p = record { number = neverallowBroken; place = c .never; clash = c; policy = p }
 
+-- ---- afterN: what is left to ask where N is not to be given
 unfoldable pub after8 : Names → List Statement → Policy → Loaded
 after8 n ss p = unlessBroken (neverBroken (length (n .types)) (rulesOf n ss)) p
 
@@ -73,6 +75,12 @@ loadWords end ws = afterReading (readText end ws) ws
 
 unfoldable pub load : List ℕ → Loaded
 load s = elim (ltb textSize (length s)) [ true ↦ refused longText 0 | false ↦ loadWords (length s) (wordsOf s) ]
+
+-- ---- the names of the clash: "showing proof_t, target_t, profile, write"
+unfoldable pub clashNames : Policy → Clash → List (List ℕ)
+clashNames p c =
+    typeAt p (c .source) .name .text ∷ typeAt p (c .target) .name .text ∷ classAt p (c .class) .name .text
+    ∷ getD (classAt p (c .class) .perms) (c .permission) nameless .text ∷ []
 
 -- with a table space of n words
 unfoldable pub loadInto : ℕ → List ℕ → Loaded

@@ -68,7 +68,7 @@ pub record Decl : Type 0 where
 unfoldable pub declOf : Statement → Item → Decl
 declOf st i = record { kind = declares st i; at = i .at; text = i .text }
 
--- "the predeclared `object_r`", before every word of the text
+-- "the predeclared `object_r`", before every name of the text; so "declaring `object_r` .. is 6"
 unfoldable pub objectR : Decl
 objectR = record { kind = dRole; at = 0; text = bytes "object_r" }
 
@@ -118,7 +118,7 @@ twiceWord ds ps st i =
     let d = declOf st i in
     if not (eqb (d .kind) dNone) && any (standsBefore d) (if eqb (d .kind) dPerm then ps else ds) then at (i .at) else nowhere
 
--- "Declaring .. a second permission statement for a class, is 6", at its first word
+-- "Declaring `object_r`, or a second permission statement for a class, is 6", at its first word
 unfoldable pub secondPerms : List Statement → Statement → Bool
 secondPerms ss st = eqb (st .form) kPerms && any (λ x. ltb (x .at) (st .at) && isPermsOf (firstText (part pFirst st)) x) ss
 
@@ -130,7 +130,7 @@ twiceIn ss ds st =
 unfoldable pub declaredTwice : List Statement → Spot
 declaredTwice ss = let ds = declared ss in firstAt (twiceIn ss ds) ss
 
--- ---- 4, "name not declared, or of another kind"
+-- ---- 4, "name not declared, or of another kind". "Use may stand before declaration": no place is compared.
 -- "attributes serve in X and against `t1` or `t2` only"
 abbrev pub anX : List ℕ
 anX = dType ∷ dAttribute ∷ dAlias ∷ []

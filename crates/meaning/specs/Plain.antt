@@ -1,12 +1,13 @@
 -- Words on truth values, lists and places that the other pages use. Nothing here is about policies.
 --
 --   if b then x else y    x where b holds, else y
+--   xor a b               just one of the two holds
 --   within lo hi k        k is one of lo, lo + 1, .., hi
 --   any p l, every p l    p holds of some element, of every element
 --   keep p l              the elements of which p holds, in order
 --   each f l              f of every element, in order
 --   joined f l            the lists f x, one after the other
---   indexFrom p i l       the place, counted from i, of the first element of which p holds; i and the length where none is
+--   indexFrom p i l       the place, counted from i, of the first element of which p holds; i + the length where none is
 --   upTo n                0, 1, .., n - 1
 --   sameBytes x y         x and y read the same
 --   Spot                  a place in the text, or none: `orElse` the first of two that is one, `earlier` the smaller

@@ -44,7 +44,7 @@ switch p x v =
     then record { number = accepted; policy = withBools p (set (p .bools) x v) }
     else record { number = noBoolean; policy = p }
 
--- a run of switch calls, refused ones included
+-- "any run of switch calls, refused ones included", of which the third demand speaks
 pub record Call : Type 0 where
   pub bool : List ℕ
   pub on : Bool

@@ -39,13 +39,14 @@ typesOf n is = let ms = typeWords n is in setOf (isIn ms) (n .types)
 unfoldable pub rolesOf : Names → List Item → Set
 rolesOf n is = setOf (namedIn is) (n .roles)
 
--- by class number: the permissions that the statement names for the class; empty where it does not name the class
+-- the permissions that the statement names for the class; empty where it does not name the class
 unfoldable pub permsFor : Statement → Class → Set
 permsFor st c =
     let ms = nameWords (permPart st) in
     let x = setOf (isIn ms) (c .perms) in
     if namedIn (classPart st) (c .name .text) then x else []
 
+-- by class number
 unfoldable pub permSets : Names → Statement → List Set
 permSets n st = each (permsFor st) (n .classes)
 

@@ -96,7 +96,7 @@ means f i = record { all = eqb (i .kind) kStar; sign = i .sign; names = f (i .te
 unfoldable pub listed : ℕ → List Meant → List ℕ → Bool
 listed s ms x = any (λ m. eqb (m .sign) s && any (sameBytes x) (m .names)) ms
 
--- ---- sets: `*` is all; a list behind `~` all but its names; else the plain names less those behind `-`, wherever they stand
+-- ---- sets, asked only of declared types or of the permissions of a class: `*` is all; a list behind `~` all but its names; else the plain names less those behind `-`, wherever they stand
 unfoldable pub isIn : List Meant → List ℕ → Bool
 isIn ms x =
     if any (λ m. m .all) ms then true
@@ -114,6 +114,6 @@ nameWords is = each (means (λ x. x ∷ [])) is
 unfoldable pub hasSelf : List Item → Bool
 hasSelf is = any (λ i. eqb (i .kind) kSelf) is
 
--- the item reads so
+-- some word of the list reads so
 unfoldable pub namedIn : List Item → List ℕ → Bool
 namedIn is x = any (λ i. sameBytes x (i .text)) is

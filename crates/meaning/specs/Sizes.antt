@@ -152,6 +152,7 @@ unfoldable pub placeOf : Seen → Word → ℕ → ℕ
 placeOf st w last = if eqb (countOf st (w .kind)) cClasses || eqb (countOf st (w .kind)) cRoles then last else w .at
 
 -- ---- the answer of the reading: the text stands, or 3 or 7 with the place
+-- 3: "place is the first word (or bad byte) with which no text of the grammar begins, or the text's length"
 pub data Verdict : Type 0 where
   fits : Verdict
   ungrammatical : ℕ → Verdict

@@ -8,6 +8,7 @@
 --   type, typealias       pFirst type     pThird aliases   pSecond attributes
 --   typeattribute         pFirst type     pSecond attributes
 --   typebounds            pFirst parent   pSecond children
+--   attribute             pFirst name     permissive       pFirst type
 --   bool                  pFirst name     pSecond `true` or `false`
 --   role, user            pFirst name     pSecond types, roles
 --   common                pFirst name     pSecond permissions
@@ -182,7 +183,7 @@ pub data Branch : Type 0 where
   whenTrue : ℕ → Branch
   whenFalse : ℕ → Branch
 
--- `form` is the keyword's kind, or `kPerms`, `kRoleTypes` or `kRoleAllow`; 0 where the statement is not whole
+-- `form` is the keyword's kind, or `kPerms`, `kRoleTypes` or `kRoleAllow`; a statement that breaks off may have 0
 pub record Statement : Type 0 where
   pub form : ℕ
   pub at : ℕ
@@ -203,7 +204,7 @@ says st k = starts (st .kw) && not (eqb (st .kw) kElse) && not (idle st) && (ofE
 unfoldable pub itemOf : Seen → Word → Item
 itemOf st w = record { kind = w .kind; at = w .at; text = w .text; pos = st .pos; sign = st .sign }
 
--- the word k ends the statement: the next one begins, `;`, or the brace behind an if's condition
+-- the word k ends the statement: the next one begins, `;`, or the brace behind an if's condition or `else`
 unfoldable pub ends : Seen → ℕ → Bool
 ends st k = starts k || eqb k kSemi || (eqb k kOpen && (eqb (st .kw) kIf || eqb (st .kw) kElse))
 

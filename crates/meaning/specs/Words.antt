@@ -4,7 +4,7 @@
 -- A mark is taken as long as it can be (`!=` before `!`); a byte that begins no word is a word by itself, of kind `kBad`.
 --
 --   Word           its kind, the place of its first byte, its bytes; `endOf` is the place behind it
---   wordAt s p     the word of s at or behind the place p; behind the last word one of kind `kEnd`, at the text's length
+--   wordAt s p     the word of s at or behind the place p; behind the last word one of kind `kEnd`, at the text's end
 --   wordsOf s      all words of s
 use Prim.Native.Nat.{ℕ, zero, suc, _+_, _-_}
 use Prim.Native.Char.{Char, code}
