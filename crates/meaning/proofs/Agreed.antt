@@ -5,21 +5,20 @@
 -- What is not met going through a list is met by no two of its elements, the later held against the earlier (`not-before`); that
 -- results are equal holds both ways round and of an element with itself, so the order goes (`any-two`).
 -- Assumes nothing.
-use Prim.Native.Nat.{ℕ, zero, suc, _<_}
+use Prim.Native.Nat.{ℕ, zero, suc}
 use native.Mathlib.Omega.{arith}
 use mathlib.Core.Path.{_≡_, refl, sym, ap, _∙_, subst}
-use mathlib.Core.Bool.{Bool, true, false, not, _&&_, false≢true}
+use mathlib.Core.Bool.{Bool, true, false, _&&_, false≢true}
 use mathlib.Core.List.{List, [], _∷_}
-use lib.Dec.{eqb}
-use lib.ListN.{getD, length}
+use lib.ListN.{length}
 use borrow.Author.Tests.{eqb-true, eq-eqb, not-false}
 use Rattle.meaning.specs.Plain.{if_then_else_, any, Spot, nowhere, at, earlier}
 use Rattle.meaning.specs.Statements.{Statement}
 use Rattle.meaning.specs.Sets.{Names}
 use Rattle.meaning.specs.Policy.{Set, holds, meet, TypeRow, RoleTransition, Policy}
-use Rattle.meaning.specs.Rules.{Bound, boundsOf}
+use Rattle.meaning.specs.Rules.{boundsOf}
 use Rattle.meaning.specs.Contradictions.{typesClash, rolesClash, firstAgainst, withAny, boundClash, contradiction}
-use Rattle.meaning.proofs.Lists.{both-and, Among, here, there, among-any}
+use Rattle.meaning.proofs.Lists.{Among, here, there, among-any}
 
 -- ---- no place
 somewhere : (p : ℕ) → at p ≡ nowhere → ⊥
