@@ -162,6 +162,7 @@ module _ (n : ℕ) (b : Bound) (bs : List Bound) (e : boundClash n bs b ≡ fals
       goes-on b bs (stays b bs (r .1) n (omega arith) no-cycle) (g x .1)
 
 -- ---- all the bounds
+-- the parents are below n; nothing is asked of the children
 abbrev pub InRange : ℕ → List Bound → Type 0
 InRange n bs = (b : Bound) → Among b bs → b .parent < n
 
