@@ -13,3 +13,7 @@ pub mod Grouping
 -- lists, and what a load rests on
 pub mod Lists
 pub mod Accepted
+-- refusal 8: what a text without it rests on, and its parents, which run in no cycle
+pub mod Agreed
+pub mod Pigeons
+pub mod Parents
