@@ -1,3 +1,6 @@
 pub mod Opened
 pub mod Lists
+pub mod Sorted
 pub mod Accepted
+pub mod Clashes
+pub mod Smallest

@@ -114,7 +114,7 @@ among-numbers i zero k l h = absurd (omega arith)
 among-numbers i (suc n) k l h = bool-cases (eqb k i) (λ e. here (eqb-true k i e))
     (λ e. let d : k ≡ i → ⊥ = eqb-false k i e in there (among-numbers (i + 1) n k (omega arith) (omega arith)))
 
-numbers-among : (i n : ℕ) {k : ℕ} → Among k (numbers i n) → (i ≤ k) × (k < i + n)
+pub numbers-among : (i n : ℕ) {k : ℕ} → Among k (numbers i n) → (i ≤ k) × (k < i + n)
 numbers-among i zero m = absurd (none-among m)
 numbers-among i (suc n) (here e) = (omega arith, omega arith)
 numbers-among i (suc n) (there m) = let r = numbers-among (i + 1) n m in (omega arith, omega arith)
