@@ -4,3 +4,4 @@ pub mod Sorted
 pub mod Accepted
 pub mod Clashes
 pub mod Smallest
+pub mod Places
