@@ -5,3 +5,4 @@ pub mod Accepted
 pub mod Clashes
 pub mod Smallest
 pub mod Places
+pub mod Apart
