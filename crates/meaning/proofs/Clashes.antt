@@ -93,7 +93,7 @@ bothPerm a b c i = holds (rulePerms a c) i && holds (rulePerms b c) i
 abbrev pub permCount : Rule → ℕ → ℕ
 permCount a c = length (rulePerms a c)
 
-class-below : (l : List Set) (c i : ℕ) → holds (getD l c []) i ≡ true → c < length l
+pub class-below : (l : List Set) (c i : ℕ) → holds (getD l c []) i ≡ true → c < length l
 class-below [] c i e = absurd (false≢true e)
 class-below (x ∷ l) zero i e = omega arith
 class-below (x ∷ l) (suc c) i e = let r = class-below l c i e in omega arith

@@ -6,3 +6,4 @@ pub mod Clashes
 pub mod Smallest
 pub mod Places
 pub mod Apart
+pub mod Rows
