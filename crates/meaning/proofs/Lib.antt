@@ -7,3 +7,4 @@ pub mod Smallest
 pub mod Places
 pub mod Apart
 pub mod Rows
+pub mod Nine
