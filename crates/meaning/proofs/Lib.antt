@@ -8,3 +8,6 @@ pub mod Places
 pub mod Apart
 pub mod Rows
 pub mod Nine
+pub mod Masks
+pub mod Asked
+pub mod Never

@@ -12,7 +12,7 @@ use native.Mathlib.Omega.{arith}
 use borrow.Author.Tests.{eqb-true, eqb-false, eq-eqb}
 use lib.Dec.{eqb}
 use lib.ListN.{length, getD}
-use Rattle.meaning.specs.Plain.{if_then_else_, any, keep, each, joined, numbers, upTo, sameBytes}
+use Rattle.meaning.specs.Plain.{if_then_else_, any, keep, each, joined, indexFrom, numbers, upTo, sameBytes}
 
 -- ---- truth values
 pub bool-cases : {P : Type 0} (b : Bool) → (b ≡ true → P) → (b ≡ false → P) → P
@@ -163,3 +163,15 @@ pub holds-below : (l : List Bool) (i : ℕ) → getD l i false ≡ true → i < 
 holds-below [] i e = absurd (false≢true e)
 holds-below (b ∷ l) zero e = omega arith
 holds-below (b ∷ l) (suc i) e = let r = holds-below l i e in omega arith
+
+-- ---- the first of which a test holds
+pub index-found : {A : Type 0} (p : A → Bool) (l : List A) (d : A) (i : ℕ) → any p l ≡ true
+    → (j : ℕ) × (j < length l) × (indexFrom p i l ≡ i + j) × (p (getD l j d) ≡ true)
+index-found p [] d i e = absurd (false≢true e)
+index-found p (x ∷ l) d i e =
+    bool-cases (p x) (λ q. (0, omega arith, rw q (omega arith), q))
+    (λ q. let r = index-found p l d (i + 1) (rw q at e) in (suc (r .0), omega arith, rw q (omega (arith, r .2)), r .3))
+
+pub index-any : {A : Type 0} (p : A → Bool) (l : List A) (i : ℕ) → indexFrom p i l < i + length l → any p l ≡ true
+index-any p [] i h = absurd (omega arith)
+index-any p (x ∷ l) i h = bool-cases (p x) (λ q. rw q) (λ q. rw q (let k = rw q at h in index-any p l (i + 1) (omega arith)))

@@ -23,7 +23,7 @@ use Rattle.meaning.specs.Neverallow.{rulePair, rulePerms}
 use Rattle.meaning.specs.Contexts.{nameless}
 use Rattle.meaning.specs.Access.{rowCovers}
 use Rattle.meaning.specs.Keywords.{isAv}
-use Rattle.meaning.proofs.Lists.{Among, bool-cases, and-both, both-and, same-test, same-bytes, bytes-same, keep-among, among-keep, each-among, among-each, joined-among, among-joined, any-among, among-any, at-among, length-each, getD-each, holds-below}
+use Rattle.meaning.proofs.Lists.{Among, bool-cases, and-both, both-and, same-test, same-bytes, bytes-same, keep-among, among-keep, each-among, among-each, joined-among, among-joined, any-among, among-any, at-among, length-each, getD-each, holds-below, index-found}
 use Rattle.meaning.proofs.Apart.{Apart}
 use Rattle.meaning.proofs.Clashes.{ruleCovers, class-below}
 
@@ -103,13 +103,6 @@ row-is : (r : Rule) (k s t c i : ℕ) → rowCovers (rowOf r k) s t c i ≡ (eqb
 unfolding rowCovers rowOf rulePair rulePerms
 row-is r k s t c i =
     bool-cases (eqb k c) (λ e. rw e (ap (λ x. rulePair r s t && holds (getD (r .perms) x []) i) (eqb-true k c e))) (λ e. rw e)
-
-index-found : {A : Type 0} (p : A → Bool) (l : List A) (d : A) (i : ℕ) → any p l ≡ true
-    → (j : ℕ) × (j < length l) × (indexFrom p i l ≡ i + j) × (p (getD l j d) ≡ true)
-index-found p [] d i e = absurd (false≢true e)
-index-found p (x ∷ l) d i e =
-    bool-cases (p x) (λ q. (0, omega arith, rw q (omega arith), q))
-    (λ q. let r = index-found p l d (i + 1) (rw q at e) in (suc (r .0), omega arith, rw q (omega (arith, r .2)), r .3))
 
 class-number : (n : Names) → Apart (λ k. k .name .text) (n .classes) → (c : ℕ) → c < length (n .classes) → classNumber (n .classes) (className n c) ≡ c
 unfolding classNumber
