@@ -1,7 +1,7 @@
 -- In a text that has passed 6 no two types read the same, and no two classes: two declarations of one kind that read the same are one.
 -- Their places rise along the list, so of two the earlier stands before the later, and 6 would have been given at the later.
 -- Assumes nothing.
-use mathlib.Core.Path.{_≡_, refl, sym, ap, _∙_, subst}
+use mathlib.Core.Path.{_≡_, refl, sym, ap, _∙_}
 use mathlib.Core.Bool.{Bool, true, false, not, _&&_, false≢true}
 use mathlib.Core.List.{List, [], _∷_}
 use Prim.Native.Nat.{ℕ, zero, suc, _<_, _≤_}
@@ -13,9 +13,9 @@ use lib.ListN.{length, getD}
 use Rattle.meaning.specs.Plain.{if_then_else_, any, keep, each, joined, sameBytes, within, Spot, nowhere, at, orElse, firstAt}
 use Rattle.meaning.specs.Statements.{Item, Statement}
 use Rattle.meaning.specs.Names.{Decl, declares, declOf, declaredBy, declared, objectR, standsBefore, space, permDecls, twiceWord, secondPerms, twiceIn, declaredTwice, dNone, dType, dRole, dClass, dBool, dPerm}
-use Rattle.meaning.specs.Permissions.{Name, Class, classOf, classesIn}
+use Rattle.meaning.specs.Permissions.{classOf, classesIn}
 use Rattle.meaning.specs.Sets.{nameOf, ofKind, namesOf}
-use Rattle.meaning.proofs.Lists.{Among, here, there, bool-cases, both-and, same-bytes, bytes-same, keep-among, each-among, joined-among, among-any, at-among, length-each, getD-each}
+use Rattle.meaning.proofs.Lists.{Among, here, there, bool-cases, both-and, bytes-same, keep-among, each-among, joined-among, among-any, at-among, length-each, getD-each}
 use Rattle.meaning.proofs.Sorted.{Sorted, sorted-keep}
 use Rattle.meaning.proofs.Places.{declarations-sorted}
 use Rattle.meaning.proofs.Accepted.{statementsIn, namesIn}
@@ -121,7 +121,9 @@ module _ (s : List ℕ) (once : declaredTwice (statementsIn s) ≡ nowhere) (k :
 -- No two types of a text that has passed 6 read the same.
 pub types-apart : (s : List ℕ) → declaredTwice (statementsIn s) ≡ nowhere → Apart (λ x. x .text) (namesIn s .types)
 unfolding namesOf ofKind nameOf
-types-apart s once = each-apart (λ d. d .text) (λ x. x .text) nameOf (λ d. refl) objectR (ofThat dType (declared (statementsIn s))) (one-apart s once dType refl refl refl)
+types-apart s once =
+    let ss = statementsIn s in
+    each-apart (λ d. d .text) (λ x. x .text) nameOf (λ d. refl) objectR (ofThat dType (declared ss)) (one-apart s once dType refl refl refl)
 
 -- No two classes do.
 pub classes-apart : (s : List ℕ) → declaredTwice (statementsIn s) ≡ nowhere → Apart (λ c. c .name .text) (namesIn s .classes)

@@ -1,15 +1,15 @@
 -- What a question that is not refused is about: both contexts read, with a type of the policy, and the class is one of the policy.
 -- By the tests of `judged`, `named` and the three steps of `asked`, one after the other.
 -- Assumes nothing.
-use mathlib.Core.Path.{_≡_, refl, sym, ap, _∙_, subst}
-use mathlib.Core.Bool.{Bool, true, false, not, false≢true}
+use mathlib.Core.Path.{_≡_, refl, sym, ap, subst}
+use mathlib.Core.Bool.{Bool, true, false, not}
 use mathlib.Core.List.{List, [], _∷_}
 use Prim.Native.Nat.{ℕ, _<_}
 use native.Mathlib.Omega.{arith}
 use borrow.Author.Tests.{not-false, ltb-true}
 use lib.Dec.{ltb}
 use lib.ListN.{length}
-use Rattle.meaning.specs.Plain.{if_then_else_, indexFrom, sameBytes}
+use Rattle.meaning.specs.Plain.{if_then_else_, sameBytes}
 use Rattle.meaning.specs.Permissions.{Class}
 use Rattle.meaning.specs.Policy.{Policy}
 use Rattle.meaning.specs.Rules.{classNumber}
@@ -55,44 +55,44 @@ reads-below p x d e = named-below p (parts x) d e
 pub record About (p : Policy) (x y k : List ℕ) (a b : Context) (m : ℕ) : Type 0 where
   pub source : contextOf p x ≡ reads a
   pub target : contextOf p y ≡ reads b
-  pub class : classAt p m .name .text ≡ k
+  pub class : classNumber (p .classes) k ≡ m
   pub below : m < length (p .classes)
-
-class-reads : (p : Policy) (k : List ℕ) → classNumber (p .classes) k < length (p .classes) → classAt p (classNumber (p .classes) k) .name .text ≡ k
-unfolding classNumber classAt
-class-reads p k h =
-    let f : Class → Bool = λ c. sameBytes k (c .name .text) in
-    let d : Class = record { name = nameless; perms = [] } in
-    let r = index-found f (p .classes) d 0 (index-any f (p .classes) 0 (omega arith)) in
-    let e : indexFrom f 0 (p .classes) ≡ r .0 = omega (arith, r .2) in
-    rw e (sym (same-bytes k _ (r .3)))
 
 if-about : (q : Bool) (x : Asked) (n : ℕ) (a b : Context) (m : ℕ) → (if q then x else refusedWith n) ≡ about a b m → (q ≡ true) × (x ≡ about a b m)
 if-about true x n a b m e = (refl, e)
 if-about false x n a b m e = let z : _≡_ {A = ℕ} 0 1 = cc in absurd (omega arith)
 
 about-class : (p : Policy) (c d : Context) (k : List ℕ) (a b : Context) (m : ℕ) → askedClass p c d k ≡ about a b m
-    → (c ≡ a) × (d ≡ b) × (classAt p m .name .text ≡ k) × (m < length (p .classes))
+    → (c ≡ a) × (d ≡ b) × (classNumber (p .classes) k ≡ m) × (m < length (p .classes))
 unfolding askedClass
 about-class p c d k a b m e =
     let j = classNumber (p .classes) k in
     let h = if-about (ltb j (length (p .classes))) (about c d j) noClass a b m e in
     let q = h .1 in
     let z : j ≡ m = cc q in
-    let l : j < length (p .classes) = ltb-true _ _ (h .0) in
-    (cc q, cc q, subst (λ (x : ℕ). classAt p x .name .text ≡ k) z (class-reads p k l), subst (λ (x : ℕ). x < length (p .classes)) z l)
+    (cc q, cc q, z, subst (λ (x : ℕ). x < length (p .classes)) z (ltb-true _ _ (h .0)))
 
 about-target : (p : Policy) (c : Context) (k : List ℕ) (r : Reading) (a b : Context) (m : ℕ) → askedTarget p c r k ≡ about a b m
-    → (c ≡ a) × (r ≡ reads b) × (classAt p m .name .text ≡ k) × (m < length (p .classes))
+    → (c ≡ a) × (r ≡ reads b) × (classNumber (p .classes) k ≡ m) × (m < length (p .classes))
 unfolding askedTarget
 about-target p c k (wrong w) a b m e = let z : _≡_ {A = ℕ} 0 1 = cc in absurd (omega arith)
 about-target p c k (reads d) a b m e = let h = about-class p c d k a b m e in (h .0, ap reads (h .1), h .2, h .3)
 
 about-source : (p : Policy) (y k : List ℕ) (r : Reading) (a b : Context) (m : ℕ) → askedSource p r y k ≡ about a b m
-    → (r ≡ reads a) × (contextOf p y ≡ reads b) × (classAt p m .name .text ≡ k) × (m < length (p .classes))
+    → (r ≡ reads a) × (contextOf p y ≡ reads b) × (classNumber (p .classes) k ≡ m) × (m < length (p .classes))
 unfolding askedSource
 about-source p y k (wrong w) a b m e = let z : _≡_ {A = ℕ} 0 1 = cc in absurd (omega arith)
 about-source p y k (reads c) a b m e = let h = about-target p c k (contextOf p y) a b m e in (ap reads (h .0), h .1, h .2, h .3)
+
+-- The class found for a name has that name.
+pub class-reads : (p : Policy) (k : List ℕ) (m : ℕ) → classNumber (p .classes) k ≡ m → m < length (p .classes) → classAt p m .name .text ≡ k
+unfolding classNumber classAt
+class-reads p k m q h =
+    let f : Class → Bool = λ c. sameBytes k (c .name .text) in
+    let d : Class = record { name = nameless; perms = [] } in
+    let r = index-found f (p .classes) d 0 (index-any f (p .classes) 0 (omega arith)) in
+    let e : m ≡ r .0 = omega (arith, r .2) in
+    rw e (sym (same-bytes k _ (r .3)))
 
 -- A question that is not refused is about contexts that read and a class of the policy.
 pub about-of : (p : Policy) (x y k : List ℕ) (a b : Context) (m : ℕ) → asked p x y k ≡ about a b m → About p x y k a b m

@@ -4,7 +4,7 @@
 -- Each is by induction on the list; a step on `if` is taken by a helper over the test's value.
 -- Assumes nothing.
 use mathlib.Core.Path.{_≡_, refl, sym, ap, _∙_, subst}
-use mathlib.Core.Bool.{Bool, true, false, not, _&&_, _||_, false≢true}
+use mathlib.Core.Bool.{Bool, true, false, _&&_, false≢true}
 use mathlib.Core.List.{List, [], _∷_, _++_}
 use Prim.Native.Nat.{ℕ, zero, suc, _+_, _≤_, _<_}
 use native.Mathlib.Nat.{not-suc-le-zero, le-of-suc-le-suc}
@@ -25,10 +25,6 @@ and-both false b e = absurd (false≢true e)
 
 pub both-and : (a b : Bool) → a ≡ true → b ≡ true → (a && b) ≡ true
 both-and a b p q = rw (p, q)
-
-pub or-cases : {P : Type 0} (a b : Bool) → (a || b) ≡ true → (a ≡ true → P) → (b ≡ true → P) → P
-or-cases true b e f g = f refl
-or-cases false b e f g = g e
 
 -- two tests that each follow from the other are one
 pub same-test : (a b : Bool) → (a ≡ true → b ≡ true) → (b ≡ true → a ≡ true) → a ≡ b

@@ -7,30 +7,29 @@ use mathlib.Core.Bool.{Bool, true, false, _&&_, false≢true}
 use mathlib.Core.List.{List, [], _∷_}
 use Prim.Native.Nat.{ℕ, zero, suc, _+_, _<_}
 use native.Mathlib.Nat.{not-suc-le-zero, le-of-suc-le-suc}
-use native.Mathlib.Omega.{arith}
 use borrow.Author.Tests.{eqb-true}
 use lib.Dec.{eqb}
 use lib.ListN.{length, getD}
 use Rattle.meaning.specs.Plain.{if_then_else_, any, joined, sameBytes}
 use Rattle.meaning.specs.Statements.{Item, Statement, part, ofForm, pFirst}
-use Rattle.meaning.specs.Permissions.{Name, Class}
+use Rattle.meaning.specs.Permissions.{Name}
 use Rattle.meaning.specs.Sets.{Names, namesOf}
 use Rattle.meaning.specs.Coverage.{covers}
-use Rattle.meaning.specs.Policy.{Parent, noParent, parent, TypeEntry, Switch, Row, Policy}
-use Rattle.meaning.specs.Rules.{Bound, boundsOf, rulesOf, rowsOf, typeEntries, typesIn, policyOf}
-use Rattle.meaning.specs.Contexts.{Context, Asked, refusedWith, about, asked, nameless, typeAt, classAt}
-use Rattle.meaning.specs.Access.{inForce, rowCovers, covered, unconstrained, rolesFit, ownAllows, withType, allows, bitOf, mask, refusedAnswer, answered, access}
-use Rattle.meaning.specs.Questions.{set, withBools, switch, Call, afterCalls}
+use Rattle.meaning.specs.Policy.{TypeEntry, Switch, Row, Policy}
+use Rattle.meaning.specs.Rules.{Bound, boundsOf, classNumber, typeEntries, typesIn, policyOf}
+use Rattle.meaning.specs.Contexts.{Context, wrong, reads, nameless, typeAt, roleAt, userAt, classAt, userNumber, roleNumber, typeNumber, roleHas, userHas, judged, parts, named, contextOf, Asked, refusedWith, about, asked}
+use Rattle.meaning.specs.Access.{inForce, rowCovers, covered, unconstrained, rolesFit, ownAllows, allows, number, bitOf, refusedAnswer, answered, access}
+use Rattle.meaning.specs.Questions.{withBools, switch, Call, afterCalls}
 use Rattle.meaning.specs.Keywords.{kPermissive, kAllow, kNeverallow}
 use Rattle.meaning.specs.Refusals.{accepted}
 use Rattle.meaning.specs.Load.{load}
 use Rattle.meaning.proofs.Lists.{Among, bool-cases, and-both, any-among, at-among}
 use Rattle.meaning.proofs.Accepted.{statementsIn, namesIn, policyIn, stands}
 use Rattle.meaning.proofs.Apart.{types-apart}
-use Rattle.meaning.proofs.Asked.{About, about-of, reads-below}
+use Rattle.meaning.proofs.Asked.{About, about-of, reads-below, class-reads}
 use Rattle.meaning.proofs.Masks.{bit-number, mask-bit, mask-below}
 use Rattle.meaning.proofs.Nine.{accepted-only}
-use Rattle.meaning.proofs.Rows.{typeName, classIn, permName, row-statement}
+use Rattle.meaning.proofs.Rows.{typeName, classIn, className, permName, row-statement}
 
 -- ---- switch calls change booleans only
 switch-bools : (p : Policy) (x : List ℕ) (v : Bool) (bs : List Switch) → withBools (switch p x v .policy) bs ≡ withBools p bs
@@ -44,6 +43,19 @@ calls-bools p (c ∷ cs) =
     let q = switch p (c .bool) (c .on) .policy in
     let h = calls-bools q cs in
     (h .0, h .1 ∙ switch-bools p (c .bool) (c .on) (h .0))
+
+-- contexts read as before
+named-kept : (p : Policy) (bs : List Switch) (l : List (List ℕ)) → named (withBools p bs) l ≡ named p l
+unfolding withBools named judged userNumber roleNumber typeNumber roleHas userHas roleAt userAt
+named-kept p bs [] = refl
+named-kept p bs (u ∷ []) = refl
+named-kept p bs (u ∷ r ∷ []) = refl
+named-kept p bs (u ∷ r ∷ t ∷ []) = refl
+named-kept p bs (u ∷ r ∷ t ∷ x ∷ l) = refl
+
+contexts-kept : (p : Policy) (bs : List Switch) (x : List ℕ) → contextOf (withBools p bs) x ≡ contextOf p x
+unfolding contextOf
+contexts-kept p bs x = named-kept p bs (parts x)
 
 -- ---- an allowed bit is covered by an allow row
 own-covered : (p : Policy) (s t : Context) (c i : ℕ) → ownAllows p s t c i ≡ true → covered p kAllow (s .type) (t .type) c i ≡ true
@@ -69,23 +81,27 @@ covered-row p k s t c i e =
     let b = and-both (eqb (r .kind) k) (rowCovers r s t c i) (and-both (eqb (r .kind) k && rowCovers r s t c i) (inForce p (r .branch)) (h .2) .0) in
     (r, h .1, eqb-true _ _ (b .0), b .1)
 
--- some allow row of the policy covers the types of a and b, class m and permission i, and i is a permission of the class
-record Allowed (p : Policy) (a b : Context) (m i : ℕ) : Type 0 where
+-- what an answer with bit i allowed to the question q rests on: q is not refused, an allow row covers it, i is a permission of the class
+record Allowed (p : Policy) (q : Asked) (i : ℕ) : Type 0 where
+  source : Context
+  target : Context
+  class : ℕ
+  is : q ≡ about source target class
   row : Row
   among : Among row (p .rows)
   kind : row .kind ≡ kAllow
-  covering : rowCovers row (a .type) (b .type) m i ≡ true
-  below : i < length (classAt p m .perms)
+  covering : rowCovers row (source .type) (target .type) class i ≡ true
+  below : i < length (classAt p class .perms)
 
-allowed-row : (p : Policy) (q : Asked) (a b : Context) (m i : ℕ) → q ≡ about a b m → bitOf (answered p q .allowed) i ≡ true → Allowed p a b m i
-unfolding answered
-allowed-row p q a b m i e h =
+allowed-row : (p : Policy) (q : Asked) (i : ℕ) → bitOf (answered p q .allowed) i ≡ true → Allowed p q i
+unfolding answered refusedAnswer number
+allowed-row p (refusedWith n) i h = absurd (false≢true (sym (bit-number [] i) ∙ h))
+allowed-row p (about a b m) i h =
     let n = length (classAt p m .perms) in
     let f = allows p (length (p .types)) a b m in
-    let k : bitOf (mask n f) i ≡ true = rw e at h in
-    let l : i < n = mask-below n f i k in
-    let r = covered-row p kAllow (a .type) (b .type) m i (own-covered p a b m i (allows-own p (length (p .types)) a b m i (sym (mask-bit n f i l) ∙ k))) in
-    record { row = r .0; among = r .1; kind = r .2; covering = r .3; below = l }
+    let l : i < n = mask-below n f i h in
+    let r = covered-row p kAllow (a .type) (b .type) m i (own-covered p a b m i (allows-own p (length (p .types)) a b m i (sym (mask-bit n f i l) ∙ h))) in
+    record { source = a; target = b; class = m; is = refl; row = r .0; among = r .1; kind = r .2; covering = r .3; below = l }
 
 -- ---- the types of a policy are those of its text
 module _ (n : Names) (bs : List Bound) (perm : List Item) where
@@ -108,42 +124,48 @@ pub record Forbids (ss : List Statement) (s t c x : List ℕ) : Type 0 where
   pub form : never .form ≡ kNeverallow
   pub covering : covers (namesOf ss) never s t c x ≡ true
 
--- the name of the type numbered x, and of permission i of the class numbered m
-abbrev pub nameOfType : Policy → ℕ → List ℕ
-nameOfType p x = typeAt p x .name .text
+-- the name of the type of a context, and of permission i of the class k
+abbrev pub typeIn : Policy → List ℕ → List ℕ
+typeIn p x = elim (contextOf p x) [ wrong w ↦ [] | reads c ↦ typeAt p (c .type) .name .text ]
 
-abbrev pub nameOfPermission : Policy → ℕ → ℕ → List ℕ
-nameOfPermission p m i = getD (classAt p m .perms) i nameless .text
+abbrev pub permissionIn : Policy → List ℕ → ℕ → List ℕ
+permissionIn p k i = getD (classAt p (classNumber (p .classes) k) .perms) i nameless .text
 
--- p allows nothing that the text s forbids
-abbrev pub Keeps : List ℕ → Policy → Type 0
-Keeps s p = (x y k : List ℕ) (i : ℕ) (a b : Context) (m : ℕ) → asked p x y k ≡ about a b m → bitOf (access p x y k .allowed) i ≡ true
-    → Forbids (statementsIn s) (nameOfType p (a .type)) (nameOfType p (b .type)) k (nameOfPermission p m i) → ⊥
+module _ (s : List ℕ) (bs : List Switch) where
+  type-below : (x : ℕ) → x < length (withBools (policyIn s) bs .types) → x < length (namesIn s .types)
+  unfolding withBools policyOf typesIn
+  type-below x h =
+      let ss = statementsIn s in
+      subst (λ (l : ℕ). x < l) (entries-length (namesIn s) (boundsOf (namesIn s) ss) (joined (part pFirst) (ofForm kPermissive ss)) 0 (namesIn s .types)) h
 
-type-below : (s : List ℕ) (bs : List Switch) (x : ℕ) → x < length (withBools (policyIn s) bs .types) → x < length (namesIn s .types)
-unfolding withBools policyOf typesIn
-type-below s bs x h =
-    let ss = statementsIn s in
-    subst (λ (l : ℕ). x < l) (entries-length (namesIn s) (boundsOf (namesIn s) ss) (joined (part pFirst) (ofForm kPermissive ss)) 0 (namesIn s .types)) h
+  type-named : (x : List ℕ) (a : Context) → a .type < length (namesIn s .types) → contextOf (withBools (policyIn s) bs) x ≡ reads a
+      → typeIn (policyIn s) x ≡ typeName (namesIn s) (a .type)
+  unfolding policyOf typesIn typeAt
+  type-named x a h e =
+      ap (λ r. elim r as (λ r. List ℕ) [ wrong w ↦ [] | reads c ↦ typeAt (policyIn s) (c .type) .name .text ]) (sym (contexts-kept (policyIn s) bs x) ∙ e)
+      ∙ ap (λ y. y .text) (entries-name (namesIn s) _ _ 0 (namesIn s .types) (a .type) _ h)
 
-type-named : (s : List ℕ) (bs : List Switch) (x : ℕ) → x < length (namesIn s .types) → nameOfType (withBools (policyIn s) bs) x ≡ typeName (namesIn s) x
-unfolding withBools policyOf typesIn typeAt
-type-named s bs x h = ap (λ y. y .text) (entries-name (namesIn s) _ _ 0 (namesIn s .types) x _ h)
-
-keeps : (s : List ℕ) → load s .number ≡ accepted → (bs : List Switch) → Keeps s (withBools (policyIn s) bs)
+-- the same for the policy of the text with its booleans as they may stand
+keeps : (s : List ℕ) → load s .number ≡ accepted → (bs : List Switch) (x y k : List ℕ) (i : ℕ)
+    → bitOf (access (withBools (policyIn s) bs) x y k .allowed) i ≡ true
+    → Forbids (statementsIn s) (typeIn (policyIn s) x) (typeIn (policyIn s) y) k (permissionIn (policyIn s) k i) → ⊥
 unfolding withBools policyOf classAt access
-keeps s e bs x y k i a b m q h f =
+keeps s e bs x y k i h f =
     let ss = statementsIn s in
     let n = namesIn s in
     let p = withBools (policyIn s) bs in
-    let o : About p x y k a b m = about-of p x y k a b m q in
-    let w : Allowed p a b m i = allowed-row p (asked p x y k) a b m i q h in
+    let w : Allowed p (asked p x y k) i = allowed-row p (asked p x y k) i h in
+    let a = w .source in
+    let b = w .target in
+    let m = w .class in
+    let o : About p x y k a b m = about-of p x y k a b m (w .is) in
     let ha : a .type < length (n .types) = type-below s bs (a .type) (reads-below p x a (o .source)) in
     let hb : b .type < length (n .types) = type-below s bs (b .type) (reads-below p y b (o .target)) in
     let st = row-statement n ss (types-apart s (stands s e .earlier .once)) (a .type) (b .type) m i ha hb (o .below) (w .below) (w .row) (w .among) (w .covering) in
-    let na = type-named s bs (a .type) ha in
-    let nb = type-named s bs (b .type) hb in
-    let nk = sym (o .class) in
+    let na : typeIn (policyIn s) x ≡ typeName n (a .type) = type-named s bs x a ha (o .source) in
+    let nb : typeIn (policyIn s) y ≡ typeName n (b .type) = type-named s bs y b hb (o .target) in
+    let nk : k ≡ className n m = sym (class-reads p k m (o .class) (o .below)) in
+    let ni : permissionIn (policyIn s) k i ≡ permName n m i = ap (λ (c : ℕ). permName n c i) (o .class) in
     accepted-only s e (record {
       never = f .never;
       allow = st .0;
@@ -161,15 +183,16 @@ keeps s e bs x y k i a b m q h f =
           allow-among = st .1;
           never-form = f .form;
           allow-form = st .2 ∙ w .kind;
-          by-never = transport (λ j. covers n (f .never) (na j) (nb j) (nk j) (permName n m i) ≡ true) (f .covering);
+          by-never = transport (λ j. covers n (f .never) (na j) (nb j) (nk j) (ni j) ≡ true) (f .covering);
           by-allow = st .4;
         };
     })
 
--- THE PROMISE. Take any text that is accepted, any run of switch calls, any two contexts, class and permission number. If the answer to
--- access allows the permission, then no neverallow of the text covers the source's type, the target's type, the class and the permission.
-pub promise : (s : List ℕ) → load s .number ≡ accepted → (cs : List Call) → Keeps s (afterCalls (load s .policy) cs)
-promise s e cs =
-    let b = calls-bools (load s .policy) cs in
-    let q : afterCalls (load s .policy) cs ≡ withBools (policyIn s) (b .0) = b .1 ∙ ap (λ p. withBools p (b .0)) (stands s e .policy) in
-    subst (Keeps s) (sym q) (keeps s e (b .0))
+-- THE PROMISE. Take any text that is accepted, any run of switch calls, any bytes as contexts and class, any permission number. If access
+-- allows the permission, then no neverallow of the text covers the source's type, the target's type, the class and the permission.
+pub promise : (s : List ℕ) → load s .number ≡ accepted → (cs : List Call) (x y k : List ℕ) (i : ℕ)
+    → bitOf (access (afterCalls (load s .policy) cs) x y k .allowed) i ≡ true
+    → Forbids (statementsIn s) (typeIn (load s .policy) x) (typeIn (load s .policy) y) k (permissionIn (load s .policy) k i) → ⊥
+promise s e cs x y k i =
+    let b = calls-bools (policyIn s) cs in
+    rw (stands s e .policy, b .1) (keeps s e (b .0) x y k i)

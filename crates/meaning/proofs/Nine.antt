@@ -6,9 +6,9 @@
 -- A clash of statements is one of their rules (Rows), and the search over the rules finds the smallest (Smallest).
 -- Assumes nothing.
 use mathlib.Core.Path.{_≡_, refl, sym, ap, _∙_, subst, transport}
-use mathlib.Core.Bool.{Bool, true, false, _&&_, false≢true}
+use mathlib.Core.Bool.{true, false≢true}
 use mathlib.Core.List.{List, []}
-use mathlib.Core.Logic.{_⊎_, inl, inr}
+use mathlib.Core.Logic.{_⊎_}
 use Prim.Native.Nat.{ℕ, _<_}
 use lib.Dec.{eqb}
 use lib.ListN.{length, getD}
@@ -18,17 +18,17 @@ use Rattle.meaning.specs.Names.{declaredTwice}
 use Rattle.meaning.specs.Permissions.{Name, Class}
 use Rattle.meaning.specs.Sets.{namesOf}
 use Rattle.meaning.specs.Coverage.{covers}
-use Rattle.meaning.specs.Policy.{holds, Rule, Policy}
+use Rattle.meaning.specs.Policy.{Rule}
 use Rattle.meaning.specs.Rules.{ruleOf, avStatements, rulesOf}
-use Rattle.meaning.specs.Neverallow.{Clash, Search, kept, broken, rulePair, rulePerms, neverBroken}
+use Rattle.meaning.specs.Neverallow.{Clash, Search, kept, broken, rulePair}
 use Rattle.meaning.specs.Contexts.{nameless}
 use Rattle.meaning.specs.Keywords.{isAv, kAllow, kNeverallow}
 use Rattle.meaning.specs.Refusals.{accepted, neverallowBroken}
-use Rattle.meaning.specs.Load.{Loaded, load, unlessBroken}
+use Rattle.meaning.specs.Load.{load, unlessBroken}
 use Rattle.meaning.proofs.Lists.{Among, and-both, keep-among, among-keep, each-among, among-each, at-among, among-at}
 use Rattle.meaning.proofs.Accepted.{statementsIn, namesIn, policyIn, rulesIn, searchIn, NoEarlier, load-is, isLate, no-earlier, stands}
 use Rattle.meaning.proofs.Apart.{types-apart}
-use Rattle.meaning.proofs.Clashes.{ruleCovers, Meet, ClashOf, none-left}
+use Rattle.meaning.proofs.Clashes.{ruleCovers, ClashOf, none-left}
 use Rattle.meaning.proofs.Places.{rules-sorted}
 use Rattle.meaning.proofs.Rows.{typeName, classIn, className, permName, perm-below, rule-covers}
 use Rattle.meaning.proofs.Smallest.{Before, smallest}
@@ -67,7 +67,9 @@ pub record Shows (ss : List Statement) (x : Clash) : Type 0 where
   pub target : x .target < length (namesOf ss .types)
   pub class : x .class < length (namesOf ss .classes)
   pub permission : x .permission < length (classIn (namesOf ss) (x .class) .perms)
-  pub both : Both ss never allow (typeName (namesOf ss) (x .source)) (typeName (namesOf ss) (x .target)) (className (namesOf ss) (x .class)) (permName (namesOf ss) (x .class) (x .permission))
+  pub both :
+    Both ss never allow (typeName (namesOf ss) (x .source)) (typeName (namesOf ss) (x .target)) (className (namesOf ss) (x .class))
+    (permName (namesOf ss) (x .class) (x .permission))
 
 clashing-shows : (ss : List Statement) → Clashing ss → (x : Clash) × Shows ss x
 clashing-shows ss h =
@@ -128,7 +130,8 @@ module _ (s : List ℕ) (once : declaredTwice (statementsIn s) ≡ nowhere) wher
   covers-at : (st : Statement) (x : Clash) → x .source < length (namesIn s .types) → x .target < length (namesIn s .types)
       → x .class < length (namesIn s .classes) → x .permission < length (classIn (namesIn s) (x .class) .perms)
       → ruleCovers (ruleOf (namesIn s) st) (x .source) (x .target) (x .class) (x .permission)
-      ≡ covers (namesIn s) st (typeName (namesIn s) (x .source)) (typeName (namesIn s) (x .target)) (className (namesIn s) (x .class)) (permName (namesIn s) (x .class) (x .permission))
+      ≡ covers (namesIn s) st (typeName (namesIn s) (x .source)) (typeName (namesIn s) (x .target)) (className (namesIn s) (x .class))
+      (permName (namesIn s) (x .class) (x .permission))
   covers-at st x = rule-covers (namesIn s) st (types-apart s once) (x .source) (x .target) (x .class) (x .permission)
 
   shows-clash : (x : Clash) → Shows (statementsIn s) x → ClashOf (length (namesIn s .types)) (rulesIn s) x

@@ -2,7 +2,7 @@
 -- of the one before, and a statement's place and an item's are places of words, taken in order.
 --   Rises place m l    the places of l rise strictly, from m on
 -- Assumes nothing.
-use mathlib.Core.Path.{_≡_, refl, sym, ap, _∙_, subst}
+use mathlib.Core.Path.{_≡_, refl, sym, ap}
 use mathlib.Core.Bool.{Bool, true, false, not, _&&_, false≢true}
 use mathlib.Core.List.{List, [], _∷_, _++_}
 use Prim.Native.Nat.{ℕ, zero, suc, _+_, _-_, _≤_, _<_}
@@ -14,7 +14,6 @@ use Rattle.meaning.specs.Words.{Word, endOf, isLetter, scanStep, scanTo,
 use Rattle.meaning.specs.Statements.{Seen, step, Item, itemOf, Branch, always, Statement, says, branchAt, ends, formAt, outside, Gathered, gather, statementsOf}
 use Rattle.meaning.specs.Names.{Decl, declares, declOf, declaredBy, dType, dBool}
 use Rattle.meaning.specs.Sets.{Names}
-use Rattle.meaning.specs.Policy.{Rule}
 use Rattle.meaning.specs.Rules.{ruleOf, avStatements, rulesOf}
 use Rattle.meaning.specs.Keywords.{markOf, kBad, kEnd, kIf, kElse, starts, isAv}
 use Rattle.meaning.proofs.Lists.{Among, here, there, bool-cases}

@@ -5,17 +5,17 @@
 -- A set holds a number exactly if the words that it was made of mean the name at that number: one law, `set-at`, on `each`.
 -- Assumes nothing.
 use mathlib.Core.Path.{_≡_, refl, sym, ap, ap₂, _∙_, subst}
-use mathlib.Core.Bool.{Bool, true, false, _&&_, _||_, and-assoc, false≢true}
-use mathlib.Core.List.{List, [], _∷_}
-use Prim.Native.Nat.{ℕ, zero, suc, _+_, _≤_, _<_}
+use mathlib.Core.Bool.{Bool, true, false, _&&_, and-assoc, false≢true}
+use mathlib.Core.List.{List, []}
+use Prim.Native.Nat.{ℕ, _<_}
 use native.Mathlib.Omega.{arith}
 use borrow.Author.Tests.{eqb-true, eq-eqb}
 use lib.Dec.{eqb}
 use lib.ListN.{length, getD}
-use Rattle.meaning.specs.Plain.{if_then_else_, any, keep, each, joined, indexFrom, sameBytes}
+use Rattle.meaning.specs.Plain.{if_then_else_, each, joined, sameBytes}
 use Rattle.meaning.specs.Statements.{Item, Statement, part, pFirst, pSecond}
 use Rattle.meaning.specs.Permissions.{Name, Class, classPart, permPart}
-use Rattle.meaning.specs.Sets.{Names, isIn, typeWords, nameWords, hasSelf, namedIn}
+use Rattle.meaning.specs.Sets.{Names, isIn, typeWords, nameWords, namedIn}
 use Rattle.meaning.specs.Coverage.{inSource, inTarget, coversPair, coversClass, coversPerm, covers}
 use Rattle.meaning.specs.Policy.{Set, holds, Rule, Row}
 use Rattle.meaning.specs.Rules.{classNumber, setOf, typesOf, permsFor, permSets, classNumbers, ruleOf, avStatements, rulesOf, rowOf, rowsOf}
@@ -49,6 +49,10 @@ set-below : (p : List ℕ → Bool) (ns : List Name) (i : ℕ) → holds (setOf 
 unfolding setOf
 set-below p ns i e = let h = holds-below (setOf p ns) i e in omega (arith, length-each (λ x. p (x .text)) ns)
 
+in-first : (i : ℕ) (b : Bool) (x : Set) → holds (if b then x else []) i ≡ true → holds x i ≡ true
+in-first i true x e = e
+in-first i false x e = absurd (false≢true e)
+
 module _ (n : Names) (st : Statement) where
   source-holds : (s : ℕ) → s < length (n .types) → holds (ruleOf n st .source) s ≡ inSource n st (typeName n s)
   unfolding ruleOf typesOf inSource
@@ -70,16 +74,13 @@ module _ (n : Names) (st : Statement) where
       ∙ bool-cases (namedIn (classPart st) (className n c)) (λ e. rw e (set-at (isIn (nameWords (permPart st))) (classIn n c .perms) i k)) (λ e. rw e)
 
   -- a permission that a rule covers is one of the class
-  named-below : (c i : ℕ) (b : Bool) (x : Set) → holds (if b then x else []) i ≡ true → holds x i ≡ true
-  named-below c i true x e = e
-  named-below c i false x e = absurd (false≢true e)
-
   pub perm-below : (c i : ℕ) → holds (rulePerms (ruleOf n st) c) i ≡ true → (c < length (n .classes)) × (i < length (classIn n c .perms))
   unfolding rulePerms permsFor permSets ruleOf
   perm-below c i e =
       let h : c < length (n .classes) = let l = class-below (permSets n st) c i e in omega (arith, length-each (permsFor st) (n .classes)) in
-      let x = setOf (isIn (nameWords (permPart st))) (classIn n c .perms) in
-      (h, set-below (isIn (nameWords (permPart st))) (classIn n c .perms) i (named-below c i (namedIn (classPart st) (className n c)) x (sym (ap (λ x. holds x i) (perms-are c h)) ∙ e)))
+      let p = isIn (nameWords (permPart st)) in
+      let k : holds (permsFor st (classIn n c)) i ≡ true = sym (ap (λ x. holds x i) (perms-are c h)) ∙ e in
+      (h, set-below p (classIn n c .perms) i (in-first i (namedIn (classPart st) (className n c)) (setOf p (classIn n c .perms)) k))
 
   module _ (apart : Apart (λ x. x .text) (n .types)) where
     same-type : (s t : ℕ) → s < length (n .types) → t < length (n .types) → eqb s t ≡ sameBytes (typeName n s) (typeName n t)
@@ -96,7 +97,8 @@ module _ (n : Names) (st : Statement) where
         → ruleCovers (ruleOf n st) s t c i ≡ covers n st (typeName n s) (typeName n t) (className n c) (permName n c i)
     unfolding covers
     rule-covers s t c i hs ht hc hi =
-        ap₂ (λ x y. x && y) (pair-covers s t hs ht) (perm-holds c i hc hi) ∙ sym (and-assoc (coversPair n st (typeName n s) (typeName n t)) (coversClass st (className n c)) (coversPerm st (permName n c i)))
+        ap₂ (λ x y. x && y) (pair-covers s t hs ht) (perm-holds c i hc hi)
+        ∙ sym (and-assoc (coversPair n st (typeName n s) (typeName n t)) (coversClass st (className n c)) (coversPerm st (permName n c i)))
 
 -- ---- rows
 row-is : (r : Rule) (k s t c i : ℕ) → rowCovers (rowOf r k) s t c i ≡ (eqb k c && ruleCovers r s t c i)
@@ -138,8 +140,10 @@ module _ (n : Names) (ss : List Statement) (types : Apart (λ x. x .text) (n .ty
       let l = each-among (ruleOf n) (avStatements ss) (j .1) in
       let st = l .0 in
       let q : r ≡ rowOf (ruleOf n st) (k .0) = k .2 ∙ ap (λ x. rowOf x (k .0)) (l .2) in
-      let h = and-both (eqb (k .0) c) (ruleCovers (ruleOf n st) s t c i) (sym (ap (λ x. rowCovers x s t c i) q ∙ row-is (ruleOf n st) (k .0) s t c i) ∙ e) in
-      (st, keep-among (λ x. isAv (x .form)) ss (l .1) .0, sym (ap (λ x. x .kind) q), sym (ap (λ x. x .branch) q), sym (rule-covers n st types s t c i hs ht hc hi) ∙ h .1)
+      let w = ap (λ x. rowCovers x s t c i) q ∙ row-is (ruleOf n st) (k .0) s t c i in
+      let h = and-both (eqb (k .0) c) (ruleCovers (ruleOf n st) s t c i) (sym w ∙ e) in
+      (st, keep-among (λ x. isAv (x .form)) ss (l .1) .0, sym (ap (λ x. x .kind) q), sym (ap (λ x. x .branch) q),
+        sym (rule-covers n st types s t c i hs ht hc hi) ∙ h .1)
 
   -- What an AV statement covers is covered by one of its rows, of its form and in its branch.
   pub statement-row : Apart (λ k. k .name .text) (n .classes) → (st : Statement) → Among st ss → isAv (st .form) ≡ true → Says st

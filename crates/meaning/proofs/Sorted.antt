@@ -2,12 +2,12 @@
 -- lists joined in order are in order where R tells apart what they come from.
 --   Below xs ys    xs stands before ys as words do in a dictionary, number by number
 -- Assumes nothing.
-use mathlib.Core.Path.{_≡_, refl, sym, ap, _∙_, subst}
-use mathlib.Core.Bool.{Bool, true, false}
+use mathlib.Core.Path.{_≡_, refl, sym, subst}
+use mathlib.Core.Bool.{Bool}
 use mathlib.Core.List.{List, [], _∷_, _++_}
 use Prim.Native.Nat.{ℕ, zero, suc, _+_, _≤_, _<_}
 use native.Mathlib.Omega.{arith}
-use Rattle.meaning.specs.Plain.{if_then_else_, keep, each, joined, numbers, upTo}
+use Rattle.meaning.specs.Plain.{keep, each, joined, numbers, upTo}
 use Rattle.meaning.proofs.Lists.{Among, here, there, bool-cases, append-among, keep-among, each-among, joined-among, numbers-among}
 
 abbrev pub Sorted : {A : Type 0} → (A → A → Type 0) → List A → Type 0
