@@ -72,8 +72,8 @@ module _ (ss : List Statement) (once : declaredTwice ss ≡ nowhere) where
   later-differs x y m k l e d p t =
       let b = declared-by ss k in
       let h : standsBefore y x ≡ true =
-          both-and (ltb (x .at) (y .at) && eqb (space (x .kind)) (space (y .kind))) (sameBytes (y .text) (x .text))
-          (both-and (ltb (x .at) (y .at)) (eqb (space (x .kind)) (space (y .kind))) (lt-ltb _ _ l) (eq-eqb _ _ (ap space e))) (rw t (bytes-same (y .text))) in
+      both-and (ltb (x .at) (y .at) && eqb (space (x .kind)) (space (y .kind))) (sameBytes (y .text) (x .text))
+      (both-and (ltb (x .at) (y .at)) (eqb (space (x .kind)) (space (y .kind))) (lt-ltb _ _ l) (eq-eqb _ _ (ap space e))) (rw t (bytes-same (y .text))) in
       item-differs (b .0) (b .1) x (b .2) (b .3) m (rw (b .4) at d) (rw (b .4) at p) (rw (b .4) at h)
 
 -- ---- declarations of one kind

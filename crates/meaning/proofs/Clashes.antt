@@ -142,7 +142,7 @@ module _ (n : ℕ) (a b : Rule) where
   unfolding clashAt
   met {x = x} h =
       let e : clashAt a b (pair (x .source) (x .target)) (pair (x .class) (x .permission)) ≡ x =
-          λ i. record { never = sym (h .never) i; allow = sym (h .allow) i; source = x .source; target = x .target; class = x .class; permission = x .permission } in
+      λ i. record { never = sym (h .never) i; allow = sym (h .allow) i; source = x .source; target = x .target; class = x .class; permission = x .permission } in
       subst (λ z. Among z (clashesOf n a b)) e (met-at (x .source) (x .target) (x .class) (x .permission) (h .source) (h .target) (h .by-never) (h .by-allow))
 
 -- ---- all clashes of the rules

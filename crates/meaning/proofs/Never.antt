@@ -178,14 +178,14 @@ keeps s e bs x y k i h f =
       class-among = at-among (n .classes) m (record { name = nameless; perms = [] }) (o .below);
       permission-among = at-among (classIn n m .perms) i nameless (w .below);
       both =
-        record {
-          never-among = f .among;
-          allow-among = st .1;
-          never-form = f .form;
-          allow-form = st .2 ∙ w .kind;
-          by-never = transport (λ j. covers n (f .never) (na j) (nb j) (nk j) (ni j) ≡ true) (f .covering);
-          by-allow = st .4;
-        };
+          record {
+            never-among = f .among;
+            allow-among = st .1;
+            never-form = f .form;
+            allow-form = st .2 ∙ w .kind;
+            by-never = transport (λ j. covers n (f .never) (na j) (nb j) (nk j) (ni j) ≡ true) (f .covering);
+            by-allow = st .4;
+          };
     })
 
 -- THE PROMISE. Take any text that is accepted, any run of switch calls, any bytes as contexts and class, any permission number. If access

@@ -68,8 +68,8 @@ pub record Shows (ss : List Statement) (x : Clash) : Type 0 where
   pub class : x .class < length (namesOf ss .classes)
   pub permission : x .permission < length (classIn (namesOf ss) (x .class) .perms)
   pub both :
-    Both ss never allow (typeName (namesOf ss) (x .source)) (typeName (namesOf ss) (x .target)) (className (namesOf ss) (x .class))
-    (permName (namesOf ss) (x .class) (x .permission))
+      Both ss never allow (typeName (namesOf ss) (x .source)) (typeName (namesOf ss) (x .target)) (className (namesOf ss) (x .class))
+      (permName (namesOf ss) (x .class) (x .permission))
 
 clashing-shows : (ss : List Statement) → Clashing ss → (x : Clash) × Shows ss x
 clashing-shows ss h =
@@ -84,8 +84,8 @@ clashing-shows ss h =
     let pc : h .class ≡ classIn n (c .0) = sym (c .2) in
     let px : h .permission .text ≡ permName n (c .0) (i .0) = ap (λ x. x .text) (sym (i .2)) ∙ ap (λ k. getD (k .perms) (i .0) nameless .text) pc in
     let clash : Clash =
-        record { never = h .never .at; allow = h .allow .at; source = s .0; target = t .0; class = c .0; permission = i .0 } in
-    (clash,
+    record { never = h .never .at; allow = h .allow .at; source = s .0; target = t .0; class = c .0; permission = i .0 } in (
+      clash,
       record {
         never = h .never;
         allow = h .allow;
@@ -96,7 +96,8 @@ clashing-shows ss h =
         class = c .1;
         permission = subst (λ k. i .0 < length (k .perms)) pc (i .1);
         both = transport (λ j. Both ss (h .never) (h .allow) (ps j) (pt j) (pc j .name .text) (px j)) (h .both);
-      })
+      },
+    )
 
 shows-clashing : (ss : List Statement) (x : Clash) → Shows ss x → Clashing ss
 shows-clashing ss x h =
@@ -147,14 +148,14 @@ module _ (s : List ℕ) (once : declaredTwice (statementsIn s) ≡ nowhere) wher
         never-kind = b .never-form;
         allow-kind = b .allow-form;
         meet =
-          record {
-            never = h .never-at;
-            allow = h .allow-at;
-            source = h .source;
-            target = h .target;
-            by-never = covers-at (h .never) x (h .source) (h .target) (h .class) (h .permission) ∙ b .by-never;
-            by-allow = covers-at (h .allow) x (h .source) (h .target) (h .class) (h .permission) ∙ b .by-allow;
-          };
+            record {
+              never = h .never-at;
+              allow = h .allow-at;
+              source = h .source;
+              target = h .target;
+              by-never = covers-at (h .never) x (h .source) (h .target) (h .class) (h .permission) ∙ b .by-never;
+              by-allow = covers-at (h .allow) x (h .source) (h .target) (h .class) (h .permission) ∙ b .by-allow;
+            };
       }
 
   clash-shows : (x : Clash) → ClashOf (length (namesIn s .types)) (rulesIn s) x → Shows (statementsIn s) x
@@ -177,14 +178,14 @@ module _ (s : List ℕ) (once : declaredTwice (statementsIn s) ≡ nowhere) wher
         class = l .0;
         permission = l .1;
         both =
-          record {
-            never-among = a .1;
-            allow-among = b .1;
-            never-form = sym (ap (λ r. r .kind) (a .2)) ∙ h .never-kind;
-            allow-form = sym (ap (λ r. r .kind) (b .2)) ∙ h .allow-kind;
-            by-never = sym (covers-at (a .0) x (m .source) (m .target) (l .0) (l .1)) ∙ an;
-            by-allow = sym (covers-at (b .0) x (m .source) (m .target) (l .0) (l .1)) ∙ bn;
-          };
+            record {
+              never-among = a .1;
+              allow-among = b .1;
+              never-form = sym (ap (λ r. r .kind) (a .2)) ∙ h .never-kind;
+              allow-form = sym (ap (λ r. r .kind) (b .2)) ∙ h .allow-kind;
+              by-never = sym (covers-at (a .0) x (m .source) (m .target) (l .0) (l .1)) ∙ an;
+              by-allow = sym (covers-at (b .0) x (m .source) (m .target) (l .0) (l .1)) ∙ bn;
+            };
       }
 
 -- ---- 9

@@ -141,9 +141,13 @@ module _ (n : Names) (ss : List Statement) (types : Apart (λ x. x .text) (n .ty
       let st = l .0 in
       let q : r ≡ rowOf (ruleOf n st) (k .0) = k .2 ∙ ap (λ x. rowOf x (k .0)) (l .2) in
       let w = ap (λ x. rowCovers x s t c i) q ∙ row-is (ruleOf n st) (k .0) s t c i in
-      let h = and-both (eqb (k .0) c) (ruleCovers (ruleOf n st) s t c i) (sym w ∙ e) in
-      (st, keep-among (λ x. isAv (x .form)) ss (l .1) .0, sym (ap (λ x. x .kind) q), sym (ap (λ x. x .branch) q),
-        sym (rule-covers n st types s t c i hs ht hc hi) ∙ h .1)
+      let h = and-both (eqb (k .0) c) (ruleCovers (ruleOf n st) s t c i) (sym w ∙ e) in (
+        st,
+        keep-among (λ x. isAv (x .form)) ss (l .1) .0,
+        sym (ap (λ x. x .kind) q),
+        sym (ap (λ x. x .branch) q),
+        sym (rule-covers n st types s t c i hs ht hc hi) ∙ h .1,
+      )
 
   -- What an AV statement covers is covered by one of its rows, of its form and in its branch.
   pub statement-row : Apart (λ k. k .name .text) (n .classes) → (st : Statement) → Among st ss → isAv (st .form) ≡ true → Says st
@@ -153,6 +157,10 @@ module _ (n : Names) (ss : List Statement) (types : Apart (λ x. x .text) (n .ty
       let u = ruleOf n st in
       let h : ruleCovers u s t c i ≡ true = rule-covers n st types s t c i hs ht hc hi ∙ e in
       let k = and-both (coversPair n st (typeName n s) (typeName n t)) (coversClass st (className n c)) (and-both _ (coversPerm st (permName n c i)) e .0) .1 in
-      let a = among-each (rowOf u) (class-named n classes st c hc k) in
-      (rowOf u c, among-joined rowsOf (among-each (ruleOf n) (among-keep (λ x. isAv (x .form)) m v)) a, refl, refl,
-        row-is u c s t c i ∙ both-and _ _ (eq-eqb c c refl) h)
+      let a = among-each (rowOf u) (class-named n classes st c hc k) in (
+        rowOf u c,
+        among-joined rowsOf (among-each (ruleOf n) (among-keep (λ x. isAv (x .form)) m v)) a,
+        refl,
+        refl,
+        row-is u c s t c i ∙ both-and _ _ (eq-eqb c c refl) h,
+      )

@@ -38,9 +38,9 @@ pairs-sorted : (n : ℕ → ℕ) (p : ℕ → ℕ → Bool) (l : List ℕ) → S
 pairs-sorted n p l r =
     sorted-joined _<_ PairBefore (λ x. each (pair x) (those (n x) (p x)))
     (λ x y lt u v m k.
-      let d : u .first ≡ x = ap (λ w. w .first) (each-among (pair x) (those (n x) (p x)) m .2) in
-      let e : v .first ≡ y = ap (λ w. w .first) (each-among (pair y) (those (n y) (p y)) k .2) in
-      below-first (u .first) (v .first) (omega arith))
+    let d : u .first ≡ x = ap (λ w. w .first) (each-among (pair x) (those (n x) (p x)) m .2) in
+    let e : v .first ≡ y = ap (λ w. w .first) (each-among (pair y) (those (n y) (p y)) k .2) in
+    below-first (u .first) (v .first) (omega arith))
     (λ x. sorted-each _<_ PairBefore (pair x) (λ y z lt. below-behind x (below-first y z lt)) (those (n x) (p x)) (sorted-those (n x) (p x))) l r
 
 -- those of two rules
@@ -49,12 +49,12 @@ unfolding clashesOf pairsOf targetsOf permissionsOf sharedOf clashAt
 pair-sorted n a b =
     sorted-joined PairBefore Before (λ x. each (clashAt a b x) (permissionsOf a b))
     (λ x y h u v m k.
-      let p = each-among (clashAt a b x) (permissionsOf a b) m .2 in
-      let q = each-among (clashAt a b y) (permissionsOf a b) k .2 in
-      rw (p, q) (below-behind (a .at) (below-behind (b .at) (h .0, λ e. (h .1 e .0, λ f. absurd (h .1 e .1 f))))))
+    let p = each-among (clashAt a b x) (permissionsOf a b) m .2 in
+    let q = each-among (clashAt a b y) (permissionsOf a b) k .2 in
+    rw (p, q) (below-behind (a .at) (below-behind (b .at) (h .0, λ e. (h .1 e .0, λ f. absurd (h .1 e .1 f))))))
     (λ x. sorted-each PairBefore Before (clashAt a b x)
-      (λ y z h. below-behind (a .at) (below-behind (b .at) (below-behind (x .first) (below-behind (x .second) h))))
-      (permissionsOf a b) (pairs-sorted (permCount a) (bothPerm a b) (upTo (length (a .perms))) (sorted-upTo (length (a .perms)))))
+    (λ y z h. below-behind (a .at) (below-behind (b .at) (below-behind (x .first) (below-behind (x .second) h))))
+    (permissionsOf a b) (pairs-sorted (permCount a) (bothPerm a b) (upTo (length (a .perms))) (sorted-upTo (length (a .perms)))))
     (pairsOf n a b) (pairs-sorted (λ s. n) (bothPair a b) (those n (bothSource a b)) (sorted-those n (bothSource a b)))
 
 -- the rules stand in the order of their places
@@ -70,10 +70,10 @@ never-sorted : (n : ℕ) (a : Rule) (bs : List Rule) → InOrder bs → Sorted B
 never-sorted n a bs r =
     sorted-joined (λ a b. a .at < b .at) Before (clashesOf n a)
     (λ b c lt u v m k.
-      let p = meets n a b m in
-      let q = meets n a c k in
-      let d : u .never ≡ v .never = p .never ∙ sym (q .never) in
-      (omega arith, λ e. let l : u .allow < v .allow = omega (arith, p .allow, q .allow) in below-first (u .allow) (v .allow) l))
+    let p = meets n a b m in
+    let q = meets n a c k in
+    let d : u .never ≡ v .never = p .never ∙ sym (q .never) in
+    (omega arith, λ e. let l : u .allow < v .allow = omega (arith, p .allow, q .allow) in below-first (u .allow) (v .allow) l))
     (pair-sorted n a) bs r
 
 clashes-sorted : (n : ℕ) (rs : List Rule) → InOrder rs → Sorted Before (clashes n rs)
@@ -82,11 +82,11 @@ clashes-sorted n rs r =
     let bs = ofKind kAllow rs in
     sorted-joined (λ a b. a .at < b .at) Before (λ a. joined (clashesOf n a) bs)
     (λ a b lt u v m k.
-      let j = joined-among (clashesOf n a) bs m in
-      let h = joined-among (clashesOf n b) bs k in
-      let p : u .never ≡ a .at = meets n a (j .0) (j .2) .never in
-      let q : v .never ≡ b .at = meets n b (h .0) (h .2) .never in
-      below-first (u .never) (v .never) (omega arith))
+    let j = joined-among (clashesOf n a) bs m in
+    let h = joined-among (clashesOf n b) bs k in
+    let p : u .never ≡ a .at = meets n a (j .0) (j .2) .never in
+    let q : v .never ≡ b .at = meets n b (h .0) (h .2) .never in
+    below-first (u .never) (v .never) (omega arith))
     (λ a. never-sorted n a bs (sorted-kind kAllow rs r)) (ofKind kNeverallow rs) (sorted-kind kNeverallow rs r)
 
 -- ---- what the search finds
