@@ -8,14 +8,13 @@ use Prim.Native.Nat.{ℕ, _<_}
 use native.Mathlib.Omega.{arith}
 use borrow.Author.Tests.{not-false, ltb-true}
 use lib.Dec.{ltb}
-use lib.ListN.{length}
-use Rattle.meaning.specs.Plain.{if_then_else_, sameBytes}
-use Rattle.meaning.specs.Permissions.{Class}
+use lib.ListN.{length, getD}
+use Rattle.meaning.specs.Plain.{if_then_else_}
 use Rattle.meaning.specs.Policy.{Policy}
 use Rattle.meaning.specs.Rules.{classNumber}
-use Rattle.meaning.specs.Contexts.{Context, Wrong, noUser, noRole, noType, roleWithoutType, userWithoutRole, Reading, wrong, reads, isObject, roleHas, userHas, judged, parts, named, contextOf, nameless, classAt, Asked, refusedWith, about, askedClass, askedTarget, askedSource, asked}
+use Rattle.meaning.specs.Contexts.{Context, Wrong, noUser, noRole, noType, roleWithoutType, userWithoutRole, Reading, wrong, reads, isObject, roleHas, userHas, judged, parts, named, contextOf, nameless, typeNumber, classAt, Asked, refusedWith, about, askedClass, askedTarget, askedSource, asked}
 use Rattle.meaning.specs.Refusals.{noClass}
-use Rattle.meaning.proofs.Lists.{same-bytes, index-found, index-any}
+use Rattle.meaning.proofs.Lists.{index-reads}
 
 -- ---- contexts
 if-reads : (b : Bool) (w : Wrong) (r : Reading) (c : Context) → (if b then wrong w else r) ≡ reads c → (b ≡ false) × (r ≡ reads c)
@@ -29,27 +28,28 @@ same-context false true c v w x y e = let z : _≡_ {A = ℕ} 0 1 = cc in absurd
 same-context false false true v w x y e = let z : _≡_ {A = ℕ} 0 1 = cc in absurd (omega arith)
 same-context false false false v w x y e = cc
 
-judged-below : (p : Policy) (c d : Context) → judged p c ≡ reads d → d .type < length (p .types)
+judged-type : (p : Policy) (c d : Context) → judged p c ≡ reads d → (d .type ≡ c .type) × (d .type < length (p .types))
 unfolding judged
-judged-below p c d e =
+judged-type p c d e =
     let u = if-reads (not (ltb (c .user) (length (p .users)))) noUser _ d e in
     let r = if-reads (not (ltb (c .role) (length (p .roles)))) noRole _ d (u .1) in
     let t = if-reads (not (ltb (c .type) (length (p .types)))) noType _ d (r .1) in
     let q = same-context (isObject c) (not (roleHas p c)) (not (userHas p c)) roleWithoutType userWithoutRole c d (t .1) in
-    subst (λ x. x .type < length (p .types)) q (ltb-true _ _ (not-false _ (t .0)))
+    (ap (λ x. x .type) (sym q), subst (λ x. x .type < length (p .types)) q (ltb-true _ _ (not-false _ (t .0))))
 
-named-below : (p : Policy) (l : List (List ℕ)) (d : Context) → named p l ≡ reads d → d .type < length (p .types)
+named-type : (p : Policy) (l : List (List ℕ)) (d : Context) → named p l ≡ reads d → (d .type ≡ typeNumber p (getD l 2 [])) × (d .type < length (p .types))
 unfolding named
-named-below p [] d e = let z : _≡_ {A = ℕ} 0 1 = cc in absurd (omega arith)
-named-below p (u ∷ []) d e = let z : _≡_ {A = ℕ} 0 1 = cc in absurd (omega arith)
-named-below p (u ∷ r ∷ []) d e = let z : _≡_ {A = ℕ} 0 1 = cc in absurd (omega arith)
-named-below p (u ∷ r ∷ t ∷ []) d e = judged-below p _ d e
-named-below p (u ∷ r ∷ t ∷ x ∷ xs) d e = let z : _≡_ {A = ℕ} 0 1 = cc in absurd (omega arith)
+named-type p [] d e = let z : _≡_ {A = ℕ} 0 1 = cc in absurd (omega arith)
+named-type p (u ∷ []) d e = let z : _≡_ {A = ℕ} 0 1 = cc in absurd (omega arith)
+named-type p (u ∷ r ∷ []) d e = let z : _≡_ {A = ℕ} 0 1 = cc in absurd (omega arith)
+named-type p (u ∷ r ∷ t ∷ []) d e = judged-type p _ d e
+named-type p (u ∷ r ∷ t ∷ x ∷ xs) d e = let z : _≡_ {A = ℕ} 0 1 = cc in absurd (omega arith)
 
--- A context that reads has a type of the policy.
-pub reads-below : (p : Policy) (x : List ℕ) (d : Context) → contextOf p x ≡ reads d → d .type < length (p .types)
+-- A context that reads has the type of the policy that its third part names.
+pub reads-type : (p : Policy) (x : List ℕ) (d : Context) → contextOf p x ≡ reads d
+    → (d .type ≡ typeNumber p (getD (parts x) 2 [])) × (d .type < length (p .types))
 unfolding contextOf
-reads-below p x d e = named-below p (parts x) d e
+reads-type p x d e = named-type p (parts x) d e
 
 -- ---- the question
 pub record About (p : Policy) (x y k : List ℕ) (a b : Context) (m : ℕ) : Type 0 where
@@ -87,12 +87,7 @@ about-source p y k (reads c) a b m e = let h = about-target p c k (contextOf p y
 -- The class found for a name has that name.
 pub class-reads : (p : Policy) (k : List ℕ) (m : ℕ) → classNumber (p .classes) k ≡ m → m < length (p .classes) → classAt p m .name .text ≡ k
 unfolding classNumber classAt
-class-reads p k m q h =
-    let f : Class → Bool = λ c. sameBytes k (c .name .text) in
-    let d : Class = record { name = nameless; perms = [] } in
-    let r = index-found f (p .classes) d 0 (index-any f (p .classes) 0 (omega arith)) in
-    let e : m ≡ r .0 = omega (arith, r .2) in
-    rw e (sym (same-bytes k _ (r .3)))
+class-reads p k m q h = index-reads (λ c. c .name .text) k (p .classes) (record { name = nameless; perms = [] }) m q h
 
 -- A question that is not refused is about contexts that read and a class of the policy.
 pub about-of : (p : Policy) (x y k : List ℕ) (a b : Context) (m : ℕ) → asked p x y k ≡ about a b m → About p x y k a b m

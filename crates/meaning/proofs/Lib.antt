@@ -10,4 +10,5 @@ pub mod Rows
 pub mod Nine
 pub mod Masks
 pub mod Asked
+pub mod Typed
 pub mod Never

@@ -4,7 +4,7 @@
 -- Each is by induction on the list; a step on `if` is taken by a helper over the test's value.
 -- Assumes nothing.
 use mathlib.Core.Path.{_≡_, refl, sym, ap, _∙_, subst}
-use mathlib.Core.Bool.{Bool, true, false, _&&_, false≢true}
+use mathlib.Core.Bool.{Bool, true, false, _&&_, _||_, false≢true}
 use mathlib.Core.List.{List, [], _∷_, _++_}
 use Prim.Native.Nat.{ℕ, zero, suc, _+_, _≤_, _<_}
 use native.Mathlib.Nat.{not-suc-le-zero, le-of-suc-le-suc}
@@ -26,6 +26,14 @@ and-both false b e = absurd (false≢true e)
 pub both-and : (a b : Bool) → a ≡ true → b ≡ true → (a && b) ≡ true
 both-and a b p q = rw (p, q)
 
+pub if-both : (b r : Bool) → (if b then r else false) ≡ true → (b ≡ true) × (r ≡ true)
+if-both true r e = (refl, e)
+if-both false r e = absurd (false≢true e)
+
+pub or-cases : {P : Type 0} (a b : Bool) → (a || b) ≡ true → (a ≡ true → P) → (b ≡ true → P) → P
+or-cases true b e f g = f refl
+or-cases false b e f g = g e
+
 -- two tests that each follow from the other are one
 pub same-test : (a b : Bool) → (a ≡ true → b ≡ true) → (b ≡ true → a ≡ true) → a ≡ b
 same-test true b f g = sym (f refl)
@@ -33,10 +41,6 @@ same-test false true f g = g refl
 same-test false false f g = refl
 
 -- ---- bytes
-if-both : (b r : Bool) → (if b then r else false) ≡ true → (b ≡ true) × (r ≡ true)
-if-both true r e = (refl, e)
-if-both false r e = absurd (false≢true e)
-
 pub same-bytes : (x y : List ℕ) → sameBytes x y ≡ true → x ≡ y
 same-bytes [] [] e = refl
 same-bytes [] (b ∷ y) e = absurd (false≢true e)
@@ -168,6 +172,15 @@ index-found p (x ∷ l) d i e =
     bool-cases (p x) (λ q. (0, omega arith, rw q (omega arith), q))
     (λ q. let r = index-found p l d (i + 1) (rw q at e) in (suc (r .0), omega arith, rw q (omega (arith, r .2)), r .3))
 
-pub index-any : {A : Type 0} (p : A → Bool) (l : List A) (i : ℕ) → indexFrom p i l < i + length l → any p l ≡ true
+index-any : {A : Type 0} (p : A → Bool) (l : List A) (i : ℕ) → indexFrom p i l < i + length l → any p l ≡ true
 index-any p [] i h = absurd (omega arith)
 index-any p (x ∷ l) i h = bool-cases (p x) (λ q. rw q) (λ q. rw q (let k = rw q at h in index-any p l (i + 1) (omega arith)))
+
+-- where a name is found it reads so
+pub index-reads : {A : Type 0} (text : A → List ℕ) (k : List ℕ) (l : List A) (d : A) (m : ℕ) → indexFrom (λ a. sameBytes k (text a)) 0 l ≡ m → m < length l
+    → text (getD l m d) ≡ k
+index-reads {A = A} text k l d m q h =
+    let f : A → Bool = λ a. sameBytes k (text a) in
+    let r = index-found f l d 0 (index-any f l 0 (omega arith)) in
+    let e : m ≡ r .0 = omega (arith, r .2) in
+    rw e (sym (same-bytes k (text (getD l (r .0) d)) (r .3)))
