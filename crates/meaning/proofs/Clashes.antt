@@ -5,7 +5,7 @@
 --   none-left      a search that finds nothing leaves none
 -- That the first is the smallest is in Smallest.
 -- Assumes nothing.
-use mathlib.Core.Path.{_≡_, refl, sym, ap, _∙_, subst}
+use mathlib.Core.Path.{_≡_, refl, sym, ap, _∙_, subst, transport}
 use mathlib.Core.Bool.{Bool, true, _&&_, false≢true}
 use mathlib.Core.List.{List, [], _∷_, _++_}
 use Prim.Native.Nat.{ℕ, zero, suc, _<_}
@@ -141,9 +141,10 @@ module _ (n : ℕ) (a b : Rule) where
   met : {x : Clash} → Meet n a b x → Among x (clashesOf n a b)
   unfolding clashAt
   met {x = x} h =
-      let e : clashAt a b (pair (x .source) (x .target)) (pair (x .class) (x .permission)) ≡ x =
-      λ i. record { never = sym (h .never) i; allow = sym (h .allow) i; source = x .source; target = x .target; class = x .class; permission = x .permission } in
-      subst (λ z. Among z (clashesOf n a b)) e (met-at (x .source) (x .target) (x .class) (x .permission) (h .source) (h .target) (h .by-never) (h .by-allow))
+      transport
+      (λ i. Among (record { never = sym (h .never) i; allow = sym (h .allow) i; source = x .source; target = x .target; class = x .class; permission = x .permission })
+      (clashesOf n a b))
+      (met-at (x .source) (x .target) (x .class) (x .permission) (h .source) (h .target) (h .by-never) (h .by-allow))
 
 -- ---- all clashes of the rules
 -- x is a clash of the rules: some neverallow and some allow among them, in whatever branch, both cover what it shows

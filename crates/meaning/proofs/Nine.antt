@@ -82,10 +82,8 @@ clashing-shows ss h =
     let ps : h .source .text ≡ typeName n (s .0) = ap (λ x. x .text) (sym (s .2)) in
     let pt : h .target .text ≡ typeName n (t .0) = ap (λ x. x .text) (sym (t .2)) in
     let pc : h .class ≡ classIn n (c .0) = sym (c .2) in
-    let px : h .permission .text ≡ permName n (c .0) (i .0) = ap (λ x. x .text) (sym (i .2)) ∙ ap (λ k. getD (k .perms) (i .0) nameless .text) pc in
-    let clash : Clash =
-    record { never = h .never .at; allow = h .allow .at; source = s .0; target = t .0; class = c .0; permission = i .0 } in (
-      clash,
+    let px : h .permission .text ≡ permName n (c .0) (i .0) = ap (λ x. x .text) (sym (i .2)) ∙ ap (λ k. getD (k .perms) (i .0) nameless .text) pc in (
+      record { never = h .never .at; allow = h .allow .at; source = s .0; target = t .0; class = c .0; permission = i .0 },
       record {
         never = h .never;
         allow = h .allow;
