@@ -138,11 +138,13 @@ of-kind s once k e =
 pub types-apart : (s : List ℕ) → declaredTwice (statementsIn s) ≡ nowhere → Apart (λ x. x .text) (namesIn s .types)
 unfolding namesOf ofKind nameOf
 types-apart s once =
-    each-apart (λ d. d .text) (λ x. x .text) nameOf (λ d. refl) objectR (keep (λ d. eqb (d .kind) dType) (declared (statementsIn s))) (of-kind s once dType refl)
+    let ds = keep (λ d. eqb (d .kind) dType) (declared (statementsIn s)) in
+    each-apart (λ d. d .text) (λ x. x .text) nameOf (λ d. refl) objectR ds (of-kind s once dType refl)
 
 -- No two classes do.
 pub classes-apart : (s : List ℕ) → declaredTwice (statementsIn s) ≡ nowhere → Apart (λ c. c .name .text) (namesIn s .classes)
 unfolding namesOf classesIn classOf
 classes-apart s once =
     let ss = statementsIn s in
-    each-apart (λ d. d .text) (λ c. c .name .text) (classOf ss) (λ d. refl) objectR (keep (λ d. eqb (d .kind) dClass) (declared ss)) (of-kind s once dClass refl)
+    let ds = keep (λ d. eqb (d .kind) dClass) (declared ss) in
+    each-apart (λ d. d .text) (λ c. c .name .text) (classOf ss) (λ d. refl) objectR ds (of-kind s once dClass refl)

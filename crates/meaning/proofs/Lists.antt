@@ -1,6 +1,7 @@
 -- Laws on truth values and on the list words of Plain that several pages here use.
 --   Among x l      x is an element of l; each word on lists has its law both ways (among-.. into the list, ..-among out of it)
 --   at-among, among-at    an element is what stands at some number below the length
+--   index-found, index-reads    what stands at the number that `indexFrom` finds
 -- Each is by induction on the list; a step on `if` is taken by a helper over the test's value.
 -- Assumes nothing.
 use mathlib.Core.Path.{_≡_, refl, sym, ap, _∙_, subst}

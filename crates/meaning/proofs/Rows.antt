@@ -156,7 +156,8 @@ module _ (n : Names) (ss : List Statement) (types : Apart (λ x. x .text) (n .ty
   statement-row classes st m v e =
       let u = ruleOf n st in
       let h : ruleCovers u s t c i ≡ true = rule-covers n st types s t c i hs ht hc hi ∙ e in
-      let k = and-both (coversPair n st (typeName n s) (typeName n t)) (coversClass st (className n c)) (and-both _ (coversPerm st (permName n c i)) e .0) .1 in
+      let g = and-both _ (coversPerm st (permName n c i)) e .0 in
+      let k = and-both (coversPair n st (typeName n s) (typeName n t)) (coversClass st (className n c)) g .1 in
       let a = among-each (rowOf u) (class-named n classes st c hc k) in (
         rowOf u c,
         among-joined rowsOf (among-each (ruleOf n) (among-keep (λ x. isAv (x .form)) m v)) a,

@@ -55,7 +55,8 @@ declares-alias : (st : Statement) (i : Item) → (eqb (st .form) kType || eqb (s
     → declares st i ≡ dAlias
 unfolding declares declaresAt
 declares-alias st i f p k =
-    or-cases (eqb (st .form) kType) (eqb (st .form) kTypealias) f (λ e. rw (k, p, eqb-true (st .form) kType e)) (λ e. rw (k, p, eqb-true (st .form) kTypealias e))
+    or-cases (eqb (st .form) kType) (eqb (st .form) kTypealias) f
+    (λ e. rw (k, p, eqb-true (st .form) kType e)) (λ e. rw (k, p, eqb-true (st .form) kTypealias e))
 
 alias-declared : (ss : List Statement) {a : Alias} → Among a (joined aliasesBy ss)
     → (d : Decl) × Among d (joined declaredBy ss) × (d .kind ≡ dAlias) × (d .text ≡ a .name .text)
