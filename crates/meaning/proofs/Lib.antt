@@ -12,8 +12,20 @@ pub mod Reading
 pub mod Grouping
 -- lists, and what a load rests on
 pub mod Lists
+pub mod Sorted
 pub mod Accepted
 -- refusal 8: what a text without it rests on, and its parents, which run in no cycle
 pub mod Agreed
 pub mod Pigeons
 pub mod Parents
+-- demand 3: all clashes and the first, places that rise, names apart, rows and statements, refusal 9, the promise
+pub mod Clashes
+pub mod Smallest
+pub mod Places
+pub mod Apart
+pub mod Rows
+pub mod Nine
+pub mod Masks
+pub mod Asked
+pub mod Typed
+pub mod Never

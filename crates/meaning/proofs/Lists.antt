@@ -1,10 +1,11 @@
 -- Laws on truth values and on the list words of Plain that several pages here use.
 --   Among x l      x is an element of l; each word on lists has its law both ways (among-.. into the list, ..-among out of it)
 --   at-among, among-at    an element is what stands at some number below the length
+--   index-found, index-reads    what stands at the number that `indexFrom` finds
 -- Each is by induction on the list; a step on `if` is taken by a helper over the test's value.
 -- Assumes nothing.
 use mathlib.Core.Path.{_≡_, refl, sym, ap, _∙_, subst}
-use mathlib.Core.Bool.{Bool, true, false, not, _&&_, _||_, false≢true}
+use mathlib.Core.Bool.{Bool, true, false, _&&_, _||_, false≢true}
 use mathlib.Core.List.{List, [], _∷_, _++_}
 use Prim.Native.Nat.{ℕ, zero, suc, _+_, _≤_, _<_}
 use native.Mathlib.Nat.{not-suc-le-zero, le-of-suc-le-suc}
@@ -12,7 +13,7 @@ use native.Mathlib.Omega.{arith}
 use borrow.Author.Tests.{eqb-true, eqb-false, eq-eqb}
 use lib.Dec.{eqb}
 use lib.ListN.{length, getD}
-use Rattle.meaning.specs.Plain.{if_then_else_, any, keep, each, joined, numbers, upTo, sameBytes}
+use Rattle.meaning.specs.Plain.{if_then_else_, any, keep, each, joined, indexFrom, numbers, upTo, sameBytes}
 
 -- ---- truth values
 pub bool-cases : {P : Type 0} (b : Bool) → (b ≡ true → P) → (b ≡ false → P) → P
@@ -26,6 +27,10 @@ and-both false b e = absurd (false≢true e)
 pub both-and : (a b : Bool) → a ≡ true → b ≡ true → (a && b) ≡ true
 both-and a b p q = rw (p, q)
 
+pub if-both : (b r : Bool) → (if b then r else false) ≡ true → (b ≡ true) × (r ≡ true)
+if-both true r e = (refl, e)
+if-both false r e = absurd (false≢true e)
+
 pub or-cases : {P : Type 0} (a b : Bool) → (a || b) ≡ true → (a ≡ true → P) → (b ≡ true → P) → P
 or-cases true b e f g = f refl
 or-cases false b e f g = g e
@@ -37,10 +42,6 @@ same-test false true f g = g refl
 same-test false false f g = refl
 
 -- ---- bytes
-if-both : (b r : Bool) → (if b then r else false) ≡ true → (b ≡ true) × (r ≡ true)
-if-both true r e = (refl, e)
-if-both false r e = absurd (false≢true e)
-
 pub same-bytes : (x y : List ℕ) → sameBytes x y ≡ true → x ≡ y
 same-bytes [] [] e = refl
 same-bytes [] (b ∷ y) e = absurd (false≢true e)
@@ -114,7 +115,7 @@ among-numbers i zero k l h = absurd (omega arith)
 among-numbers i (suc n) k l h = bool-cases (eqb k i) (λ e. here (eqb-true k i e))
     (λ e. let d : k ≡ i → ⊥ = eqb-false k i e in there (among-numbers (i + 1) n k (omega arith) (omega arith)))
 
-numbers-among : (i n : ℕ) {k : ℕ} → Among k (numbers i n) → (i ≤ k) × (k < i + n)
+pub numbers-among : (i n : ℕ) {k : ℕ} → Among k (numbers i n) → (i ≤ k) × (k < i + n)
 numbers-among i zero m = absurd (none-among m)
 numbers-among i (suc n) (here e) = (omega arith, omega arith)
 numbers-among i (suc n) (there m) = let r = numbers-among (i + 1) n m in (omega arith, omega arith)
@@ -163,3 +164,24 @@ pub holds-below : (l : List Bool) (i : ℕ) → getD l i false ≡ true → i < 
 holds-below [] i e = absurd (false≢true e)
 holds-below (b ∷ l) zero e = omega arith
 holds-below (b ∷ l) (suc i) e = let r = holds-below l i e in omega arith
+
+-- ---- the first of which a test holds
+pub index-found : {A : Type 0} (p : A → Bool) (l : List A) (d : A) (i : ℕ) → any p l ≡ true
+    → (j : ℕ) × (j < length l) × (indexFrom p i l ≡ i + j) × (p (getD l j d) ≡ true)
+index-found p [] d i e = absurd (false≢true e)
+index-found p (x ∷ l) d i e =
+    bool-cases (p x) (λ q. (0, omega arith, rw q (omega arith), q))
+    (λ q. let r = index-found p l d (i + 1) (rw q at e) in (suc (r .0), omega arith, rw q (omega (arith, r .2)), r .3))
+
+index-any : {A : Type 0} (p : A → Bool) (l : List A) (i : ℕ) → indexFrom p i l < i + length l → any p l ≡ true
+index-any p [] i h = absurd (omega arith)
+index-any p (x ∷ l) i h = bool-cases (p x) (λ q. rw q) (λ q. rw q (let k = rw q at h in index-any p l (i + 1) (omega arith)))
+
+-- where a name is found it reads so
+pub index-reads : {A : Type 0} (text : A → List ℕ) (k : List ℕ) (l : List A) (d : A) (m : ℕ) → indexFrom (λ a. sameBytes k (text a)) 0 l ≡ m → m < length l
+    → text (getD l m d) ≡ k
+index-reads {A = A} text k l d m q h =
+    let f : A → Bool = λ a. sameBytes k (text a) in
+    let r = index-found f l d 0 (index-any f l 0 (omega arith)) in
+    let e : m ≡ r .0 = omega (arith, r .2) in
+    rw e (sym (same-bytes k (text (getD l (r .0) d)) (r .3)))
