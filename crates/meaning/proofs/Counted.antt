@@ -17,7 +17,7 @@ use Rattle.meaning.specs.Statements.{Seen, outside, inE, ofE, step, Item
 use Rattle.meaning.specs.Statements.{pFirst, pSecond, pThird, pClass, pTest, pTypes}
 use Rattle.meaning.specs.Sizes.{limits, nameCount, formCount, countOf, Counts, noCounts, counted, cIfs, cNone}
 use Rattle.meaning.specs.Keywords.{kClass, kCommon, kIf}
-use Rattle.meaning.proofs.Lengths.{bool-cases, and-both, or-cases, and-false, oneIf, one-le, sum, keep-one, keep-le}
+use Rattle.meaning.proofs.Lengths.{bool-cases, and-both, or-cases, and-false, oneIf, one-le, sum, keep-if, keep-le}
 use Rattle.meaning.proofs.Steps.{active, active-starts, if-all, starts-ends, ends-silent, Form, none, own, perms, types, roles, form-keyword}
 use Rattle.meaning.proofs.Passed.{Fine, Passed, done, begins, goes, tail-cases, form-of}
 
@@ -94,8 +94,12 @@ module _ (j : ℕ) (some : j < cNone) where
 unfoldable pub counts : ℕ → ℕ → Item → Bool
 counts j k i = eqb (nameCount k (i .pos)) j
 
+-- what a statement of this form counts for as a whole, an `if` too
+unfoldable pub wholeCount : ℕ → ℕ
+wholeCount f = if eqb f kIf then cIfs else formCount f
+
 unfoldable pub share : ℕ → Statement → ℕ
-share j s = length (keep (counts j (s .form)) (s .items)) + oneIf (eqb (formCount (s .form)) j) + oneIf (eqb (s .form) kIf && eqb cIfs j)
+share j s = length (keep (counts j (s .form)) (s .items)) + oneIf (eqb (wholeCount (s .form)) j)
 
 module _ (j : ℕ) (some : j < cNone) where
   -- what counts by the form of a statement counts by its keyword
@@ -115,9 +119,9 @@ module _ (j : ℕ) (some : j < cNone) where
   form-le true f g = omega arith
   form-le false f g = omega arith
 
-  item-le : (s : Bool) (k : ℕ) (i : Item) (l : List Item) → length (keep (counts j k) (if s then i ∷ l else l)) ≤ oneIf (s && counts j k i) + length (keep (counts j k) l)
-  item-le true k i l = omega (arith, keep-one (counts j k) i l)
-  item-le false k i l = omega arith
+  whole-le : {k f : ℕ} → Form k f → oneIf (eqb (wholeCount f) j) ≤ oneIf (eqb (formCount f) j) + oneIf (eqb k kIf && eqb cIfs j)
+  unfolding wholeCount
+  whole-le {f = f} h = bool-cases (eqb f kIf) (λ e. rw (e, form-keyword h kIf refl (eqb-true f kIf e)) (omega arith)) (λ e. rw e (omega arith))
 
   shares : {st : Seen} {c : Counts} {g : Gathered} → Passed st c g → length (c .totals) ≡ 14
       → length (keep (counts j (st .kw)) (g .items)) + oneIf (eqb (formCount (g .form)) j) + sum (share j) (g .rest) ≤ getD limits j 0 - getD (c .totals) j 0
@@ -128,15 +132,14 @@ module _ (j : ℕ) (some : j < cNone) where
       let m = adds j some st w c l f in
       let y = rw (starts-ends st (w .kind) (active-starts (w .kind) a)) at (pays j some st (w .kind)) in
       let x = keep-le (counts j (r .form)) (counts j (w .kind)) (form-counts (form-of p)) (r .items) in
-      let z = one-le (eqb (r .form) kIf && eqb cIfs j) (eqb (w .kind) kIf && eqb cIfs j)
-      (λ h. let q = and-both (eqb (r .form) kIf) (eqb cIfs j) h in rw (form-keyword (form-of p) kIf refl (eqb-true (r .form) kIf (q .0))) (q .1)) in
+      let z = whole-le (form-of p) in
       omega arith
   shares {st} {c} (goes {r = r} w a f p) l =
       let ih = shares p (unfold counted in simp length-set l) in
       let m = adds j some st w c l f in
       let y = pays j some st (w .kind) in
       let t = tail-le st (w .kind) a p in
-      let x = item-le (says st (w .kind)) (st .kw) (itemOf st w) (r .items) in
+      let x = keep-if (counts j (st .kw)) (says st (w .kind)) (itemOf st w) (r .items) in
       let z = form-le (ends st (w .kind)) (formAt st (w .kind)) (r .form) in
       omega arith
 

@@ -42,6 +42,12 @@ unfolding oneIf
 one-le true b f = rw (f refl) (omega arith)
 one-le false b f = omega arith
 
+-- of two that each bring about a third not both hold
+pub one-two : (a b c : Bool) → (a ≡ true → c ≡ true) → (b ≡ true → c ≡ true) → (a ≡ true → b ≡ false) → oneIf a + oneIf b ≤ oneIf c
+unfolding oneIf
+one-two true b c f g h = rw (h refl, f refl) (omega arith)
+one-two false b c f g h = let o = one-le b c g in omega arith
+
 unfoldable pub sum : {A : Type 0} → (A → ℕ) → List A → ℕ
 sum f [] = 0
 sum f (x ∷ l) = f x + sum f l
@@ -51,16 +57,36 @@ abbrev pub All : {A : Type 0} → (A → Type 0) → List A → Type 0
 All P [] = Unit {0}
 All P (x ∷ l) = P x × All P l
 
+pub all-of : {A : Type 0} {P : A → Type 0} → ((x : A) → P x) → (l : List A) → All P l
+all-of f [] = tt
+all-of f (x ∷ l) = (f x, all-of f l)
+
+pub all-map : {A : Type 0} {P Q : A → Type 0} → ((x : A) → P x → Q x) → (l : List A) → All P l → All Q l
+all-map f [] h = tt
+all-map f (x ∷ l) h = (f x (h .0), all-map f l (h .1))
+
 -- ---- lengths
 pub length-each : {A B : Type 0} (f : A → B) (l : List A) → length (each f l) ≡ length l
 length-each f [] = refl
 length-each f (x ∷ l) = ap suc (length-each f l)
 
--- one more is kept, where the test holds of it
-pub keep-one : {A : Type 0} (p : A → Bool) (x : A) (l : List A) → length (keep p (x ∷ l)) ≡ oneIf (p x) + length (keep p l)
+-- one more is kept, where the tests hold of it
+pub keep-if : {A : Type 0} (p : A → Bool) (b : Bool) (x : A) (l : List A) → length (keep p (if b then x ∷ l else l)) ≡ oneIf (b && p x) + length (keep p l)
 unfolding oneIf
-keep-one p x l = bool-cases (p x) (λ e. rw e (omega arith)) (λ e. rw e (omega arith))
+keep-if p true x l = bool-cases (p x) (λ e. rw e (omega arith)) (λ e. rw e (omega arith))
+keep-if p false x l = omega arith
 
 pub keep-le : {A : Type 0} (p q : A → Bool) → ((x : A) → p x ≡ true → q x ≡ true) → (l : List A) → length (keep p l) ≤ length (keep q l)
 keep-le p q f [] = omega arith
-keep-le p q f (x ∷ l) = let r = keep-le p q f l in let o = one-le (p x) (q x) (f x) in omega (arith, keep-one p x l, keep-one q x l)
+keep-le p q f (x ∷ l) = let r = keep-le p q f l in let o = one-le (p x) (q x) (f x) in omega (arith, keep-if p true x l, keep-if q true x l)
+
+-- what is kept, and what is joined, is no longer than a sum that bounds it element by element
+pub keep-sum : {A : Type 0} (p : A → Bool) (f : A → ℕ) (l : List A) → All (λ x. oneIf (p x) ≤ f x) l → length (keep p l) ≤ sum f l
+unfolding sum
+keep-sum p f [] h = omega arith
+keep-sum p f (x ∷ l) h = let r = keep-sum p f l (h .1) in omega (arith, keep-if p true x l)
+
+pub joined-sum : {A B : Type 0} (g : A → List B) (f : A → ℕ) (l : List A) → All (λ x. length (g x) ≤ f x) l → length (joined g l) ≤ sum f l
+unfolding sum
+joined-sum g f [] h = omega arith
+joined-sum g f (x ∷ l) h = let r = joined-sum g f l (h .1) in omega (arith, length-append (g x) (joined g l))

@@ -3,3 +3,5 @@ pub mod Lengths
 pub mod Steps
 pub mod Passed
 pub mod Counted
+pub mod Limits
+pub mod Own

@@ -12,10 +12,10 @@ use borrow.Author.Tests.{eqb-true, ltb-false, not-true}
 use lib.Dec.{eqb, leb, ltb}
 use Rattle.meaning.specs.Plain.{if_then_else_, within}
 use Rattle.meaning.specs.Statements.{Seen, begun, outside, moved, signed, opened, inE, comparing, behind, compared, stepE, stepS, step}
-use Rattle.meaning.specs.Statements.{pFirst, pSecond, pThird, pClass, pOver, pTest, pBehind, minus, saying, ends, formAt}
+use Rattle.meaning.specs.Statements.{pFirst, pSecond, pThird, pClass, pOver, pTest, pBehind, minus, ofE, saying, says, ends, formAt}
 use Rattle.meaning.specs.Keywords.{kName, kOpen, kClose, kLparen, kRparen, kSemi, kColon, kComma, kTilde, kStar, kMinus, kClass, kCommon, kRole, kAllow}
 use Rattle.meaning.specs.Keywords.{kIf, kElse, kConstrain, kInherits, kAlias, kTrue, kFalse, kSelf, kU1, kU2, kR1, kR2, kPerms, kRoleTypes, kRoleAllow, starts, isTerm}
-use Rattle.meaning.proofs.Lengths.{bool-cases, and-both, or-cases, or-neither}
+use Rattle.meaning.proofs.Lengths.{bool-cases, and-both, or-cases, and-false}
 
 -- a statement begins; `else` begins none
 abbrev pub active : ℕ → Bool
@@ -138,6 +138,12 @@ say-cases P k e n s t y f =
 pub ends-silent : (st : Seen) (k : ℕ) → ends st k ≡ true → saying k ≡ false
 unfolding ends
 ends-silent st k e = bool-cases (saying k) (λ s. absurd (false≢true (sym (say-cases (λ x. ends st x ≡ false) k s refl refl refl refl refl) ∙ e))) (λ s. s)
+
+pub stop-silent : (st : Seen) (k : ℕ) → (starts k || eqb k kSemi) ≡ true → says st k ≡ false
+unfolding says ofE ends
+stop-silent st k h =
+    let y : saying k ≡ false = ends-silent st k (rw h) in
+    or-cases (starts k) (eqb k kSemi) h (λ z. rw (y, z) (simp and-false)) (λ z. rw (y, z) (simp and-false))
 
 -- ---- the form of a statement by its keyword
 pub data Form (k : ℕ) : ℕ → Type 0 where
