@@ -90,3 +90,23 @@ pub joined-sum : {A B : Type 0} (g : A → List B) (f : A → ℕ) (l : List A) 
 unfolding sum
 joined-sum g f [] h = omega arith
 joined-sum g f (x ∷ l) h = let r = joined-sum g f l (h .1) in omega (arith, length-append (g x) (joined g l))
+
+pub keep-none : {A : Type 0} (p : A → Bool) → ((x : A) → p x ≡ true → ⊥) → (l : List A) → length (keep p l) ≡ 0
+keep-none p f [] = refl
+keep-none p f (x ∷ l) = bool-cases (p x) (λ e. absurd (f x e)) (λ e. rw e (keep-none p f l))
+
+pub keep-each : {A B : Type 0} (p : B → Bool) (f : A → B) (l : List A) → length (keep p (each f l)) ≡ length (keep (λ x. p (f x)) l)
+keep-each p f [] = refl
+keep-each p f (x ∷ l) = bool-cases (p (f x)) (λ e. rw e (ap suc (keep-each p f l))) (λ e. rw e (keep-each p f l))
+
+pub keep-keep : {A : Type 0} (p q : A → Bool) (l : List A) → length (keep p (keep q l)) ≤ length (keep p l)
+keep-keep p q [] = omega arith
+keep-keep p q (x ∷ l) = let r = keep-keep p q l in bool-cases (q x) (λ e. rw e (omega (arith, keep-if p true x l, keep-if p true x (keep q l)))) (λ e. rw e (omega (arith, keep-if p true x l)))
+
+keep-append : {A : Type 0} (p : A → Bool) (s t : List A) → length (keep p (s ++ t)) ≡ length (keep p s) + length (keep p t)
+keep-append p [] t = omega arith
+keep-append p (x ∷ s) t = let r = keep-append p s t in omega (arith, keep-if p true x s, keep-if p true x (s ++ t))
+
+pub keep-joined : {A B C : Type 0} (p : B → Bool) (f : A → List B) (g : A → List C) → ((x : A) → length (keep p (f x)) ≤ length (g x)) → (l : List A) → length (keep p (joined f l)) ≤ length (joined g l)
+keep-joined p f g h [] = omega arith
+keep-joined p f g h (x ∷ l) = let r = keep-joined p f g h l in let a = h x in omega (arith, keep-append p (f x) (joined f l), length-append (g x) (joined g l))

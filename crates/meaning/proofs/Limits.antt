@@ -5,16 +5,17 @@ use mathlib.Core.Bool.{Bool, true, false, not, _&&_, _||_, false≢true}
 use mathlib.Core.List.{List, [], _∷_}
 use Prim.Native.Nat.{ℕ, _+_, _≤_, _<_}
 use native.Mathlib.Omega.{arith}
-use borrow.Author.Tests.{eqb-true, eq-eqb, ne-eqb, not-true}
-use lib.Dec.{eqb}
+use borrow.Author.Tests.{eqb-true, eqb-false, eq-eqb, ne-eqb, not-true}
+use lib.Dec.{eqb, ltb}
 use lib.ListN.{length, getD}
-use Rattle.meaning.specs.Plain.{if_then_else_, keep, joined}
+use Rattle.meaning.specs.Plain.{if_then_else_, within, keep, joined}
 use Rattle.meaning.specs.Words.{Word}
-use Rattle.meaning.specs.Statements.{Seen, begun, outside, step, ofE, Item, Statement, saying, idle, says, itemOf, ends, Gathered, part, namesAt, pFirst}
+use Rattle.meaning.specs.Statements.{Seen, begun, outside, step, ofE, Item, Statement, saying, idle, says, itemOf, ends, Gathered, part, namesAt, pFirst, pSecond, pThird, pFourth}
 use Rattle.meaning.specs.Sizes.{limits, nameCount, formCount, Counts, noCounts, cNone}
-use Rattle.meaning.specs.Keywords.{starts, kName, kOpen, kSemi, kClass, kRole, kIf, kElse}
-use Rattle.meaning.proofs.Lengths.{bool-cases, and-both, or-cases, oneIf, one-le, one-two, sum, All, all-of, all-map, keep-if, keep-le, keep-sum, joined-sum}
-use Rattle.meaning.proofs.Steps.{active, starts-ends, begin-step, left-behind, stays, first-before, first-left, stop-silent, form-keyword}
+use Rattle.meaning.specs.Keywords.{starts, kName, kOpen, kSemi, kClass, kCommon, kAttribute, kType, kTypealias, kBool, kRole, kIf, kElse, kUser, kPerms}
+use Rattle.meaning.specs.Names.{Decl, declaresAt, declares, declOf, objectR, declaredBy, declared, dType, dBool, dRole}
+use Rattle.meaning.proofs.Lengths.{bool-cases, and-both, or-cases, oneIf, one-le, one-two, sum, All, all-of, all-map, keep-if, keep-le, keep-sum, joined-sum, keep-none, keep-each, keep-keep, keep-joined}
+use Rattle.meaning.proofs.Steps.{active, if-all, starts-ends, begin-step, left-behind, stays, first-before, first-left, stop-silent, form-keyword}
 use Rattle.meaning.proofs.Passed.{Passed, done, begins, goes, madeOf, nothing-said, form-of, statements-all}
 use Rattle.meaning.proofs.Counted.{counts, wholeCount, share, shares-within}
 
@@ -116,3 +117,72 @@ module _ {g : Gathered} (p : Passed outside noCounts g) (j : ℕ) (some : j < cN
       omega arith where
         one-of : (k : ℕ) → wholeCount k ≡ j → oneIf (eqb (wholeCount k) j) ≡ 1
         one-of k e = ap oneIf (eq-eqb (wholeCount k) j e) ∙ (unfold oneIf in refl)
+
+-- ---- names by what they are declared as
+-- the form that declares such names, at its first position; 0 for aliases and permissions
+unfoldable pub home : ℕ → ℕ
+home d = getD (0 ∷ kType ∷ kAttribute ∷ 0 ∷ kRole ∷ kUser ∷ kClass ∷ kCommon ∷ kBool ∷ []) d 0
+
+abbrev At : ℕ → ℕ → ℕ → Type 0
+At k p d = ltb 0 (home d) ≡ true → (k ≡ home d) × (p ≡ pFirst)
+
+declares-home : (k p : ℕ) → At k p (declaresAt k p)
+unfolding declaresAt home
+declares-home k p =
+    if-all (At k p) (eqb k kType && eqb p pFirst) (at kType) (λ e.
+    if-all (At k p) (eqb k kAttribute && eqb p pFirst) (at kAttribute) (λ e.
+    if-all (At k p) ((eqb k kType || eqb k kTypealias) && eqb p pThird) off (λ e.
+    if-all (At k p) (eqb k kRole && eqb p pFirst) (at kRole) (λ e.
+    if-all (At k p) (eqb k kUser && eqb p pFirst) (at kUser) (λ e.
+    if-all (At k p) (eqb k kClass && eqb p pFirst) (at kClass) (λ e.
+    if-all (At k p) (eqb k kCommon && eqb p pFirst) (at kCommon) (λ e.
+    if-all (At k p) (eqb k kBool && eqb p pFirst) (at kBool) (λ e.
+    if-all (At k p) (eqb k kCommon && eqb p pSecond) off (λ e.
+    if-all (At k p) (eqb k kPerms && (eqb p pSecond || eqb p pFourth)) off off))))))))) where
+      at : (m : ℕ) {X : Type 0} → (eqb k m && eqb p pFirst) ≡ true → X → (k ≡ m) × (p ≡ pFirst)
+      at m e x = let b = and-both (eqb k m) (eqb p pFirst) e in (eqb-true k m (b .0), eqb-true p pFirst (b .1))
+
+      off : {X Y : Type 0} → X → false ≡ true → Y
+      off x h = absurd (false≢true h)
+
+-- the names at the first position of statements of the form m
+abbrev firsts : ℕ → Statement → List Item
+firsts m s = if eqb (s .form) m then namesAt pFirst s else []
+
+module _ (d : ℕ) (one : ltb 0 (home d) ≡ true) where
+  item-declares : (s : Statement) (i : Item) → eqb (declares s i) d ≡ true → (s .form ≡ home d) × (named i ≡ true)
+  unfolding declares home
+  item-declares s i =
+      bool-cases (eqb (i .kind) kName)
+      (λ n. rw n (λ h. let q = rw (eqb-true (declaresAt (s .form) (i .pos)) d h) at (declares-home (s .form) (i .pos)) in let r = q one in (r .0, rw (eq-eqb (i .pos) pFirst (r .1)))))
+      (λ n. rw n (λ h. absurd (false≢true (rw (sym (eqb-true 0 d h)) at one))))
+
+  declared-le : (s : Statement) → length (keep (λ x. eqb (x .kind) d) (declaredBy s)) ≤ length (firsts (home d) s)
+  unfolding declaredBy namesAt declOf
+  declared-le s =
+      let a = keep-each (λ x. eqb (x .kind) d) (declOf s) (keep (λ i. within dType dBool (declares s i)) (s .items)) in
+      let b = keep-keep (λ i. eqb (declares s i) d) (λ i. within dType dBool (declares s i)) (s .items) in
+      bool-cases (eqb (s .form) (home d))
+      (λ e. rw e (let c = keep-le (λ i. eqb (declares s i) d) named (λ i h. item-declares s i h .1) (s .items) in omega arith))
+      (λ e. rw e (let c = keep-none (λ i. eqb (declares s i) d) (λ i h. eqb-false (s .form) (home d) e (item-declares s i h .0)) (s .items) in omega arith))
+
+  declared-firsts : (ss : List Statement) → length (keep (λ x. eqb (x .kind) d) (declared ss)) ≤ oneIf (eqb dRole d) + length (joined (firsts (home d)) ss)
+  unfolding declared objectR
+  declared-firsts ss =
+      let a = keep-if (λ (x : Decl). eqb (x .kind) d) true objectR (joined declaredBy ss) in
+      let b = keep-joined (λ x. eqb (x .kind) d) declaredBy (firsts (home d)) declared-le ss in
+      omega arith
+
+-- the names of a kind, by what the sizes count: each name of the form that declares them, or each such statement where it has one name
+module _ {g : Gathered} (p : Passed outside noCounts g) (d j : ℕ) (one : ltb 0 (home d) ≡ true) (some : j < cNone) where
+  pub names-within : nameCount (home d) pFirst ≡ j → length (keep (λ x. eqb (x .kind) d) (declared (g .rest))) ≤ oneIf (eqb dRole d) + limit j
+  names-within n =
+      let a = declared-firsts d one (g .rest) in
+      let b = at-within p j some (λ k. eqb k (home d)) pFirst (namesAt pFirst) (λ k e. rw (eqb-true k (home d) e) n) (λ s e. names-le pFirst s) in
+      omega arith
+
+  pub single-within : single (home d) ≡ true → wholeCount (home d) ≡ j → length (keep (λ x. eqb (x .kind) d) (declared (g .rest))) ≤ oneIf (eqb dRole d) + limit j
+  single-within o n =
+      let a = declared-firsts d one (g .rest) in
+      let b = first-within p j some (home d) o n in
+      omega arith
