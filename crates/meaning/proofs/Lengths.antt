@@ -110,3 +110,20 @@ keep-append p (x ∷ s) t = let r = keep-append p s t in omega (arith, keep-if p
 pub keep-joined : {A B C : Type 0} (p : B → Bool) (f : A → List B) (g : A → List C) → ((x : A) → length (keep p (f x)) ≤ length (g x)) → (l : List A) → length (keep p (joined f l)) ≤ length (joined g l)
 keep-joined p f g h [] = omega arith
 keep-joined p f g h (x ∷ l) = let r = keep-joined p f g h l in let a = h x in omega (arith, keep-append p (f x) (joined f l), length-append (g x) (joined g l))
+
+pub joined-keep : {A B : Type 0} (f : A → List B) (p : A → Bool) (l : List A) → joined f (keep p l) ≡ joined (λ x. if p x then f x else []) l
+joined-keep f p [] = refl
+joined-keep f p (x ∷ l) = bool-cases (p x) (λ e. rw e (ap (λ r. f x ++ r) (joined-keep f p l))) (λ e. rw e (joined-keep f p l))
+
+pub joined-each : {A B C : Type 0} (f : B → List C) (g : A → B) (l : List A) → joined f (each g l) ≡ joined (λ x. f (g x)) l
+joined-each f g [] = refl
+joined-each f g (x ∷ l) = ap (λ r. f (g x) ++ r) (joined-each f g l)
+
+-- two tests of which not both hold, and a third that each brings about
+pub keep-two : {A : Type 0} (p q r : A → Bool) → ((x : A) → p x ≡ true → r x ≡ true) → ((x : A) → q x ≡ true → r x ≡ true)
+    → ((x : A) → p x ≡ true → q x ≡ false) → (l : List A) → length (keep p l) + length (keep q l) ≤ length (keep r l)
+keep-two p q r f g h [] = omega arith
+keep-two p q r f g h (x ∷ l) =
+    let i = keep-two p q r f g h l in
+    let o = one-two (p x) (q x) (r x) (f x) (g x) (h x) in
+    omega (arith, keep-if p true x l, keep-if q true x l, keep-if r true x l)

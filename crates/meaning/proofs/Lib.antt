@@ -5,3 +5,4 @@ pub mod Passed
 pub mod Counted
 pub mod Limits
 pub mod Own
+pub mod Counts

@@ -14,7 +14,7 @@ use Rattle.meaning.specs.Statements.{Seen, begun, outside, step, ofE, It
 use Rattle.meaning.specs.Sizes.{limits, nameCount, formCount, Counts, noCounts, cNone}
 use Rattle.meaning.specs.Keywords.{starts, kName, kOpen, kSemi, kClass, kCommon, kAttribute, kType, kTypealias, kBool, kRole, kIf, kElse, kUser, kPerms}
 use Rattle.meaning.specs.Names.{Decl, declaresAt, declares, declOf, objectR, declaredBy, declared, dType, dBool, dRole}
-use Rattle.meaning.proofs.Lengths.{bool-cases, and-both, or-cases, oneIf, one-le, one-two, sum, All, all-of, all-map, keep-if, keep-le, keep-sum, joined-sum, keep-none, keep-each, keep-keep, keep-joined}
+use Rattle.meaning.proofs.Lengths.{bool-cases, and-both, or-cases, oneIf, one-le, one-two, sum, All, all-of, all-map, keep-if, keep-le, keep-sum, joined-sum, keep-none, keep-each, keep-keep, keep-joined, joined-keep}
 use Rattle.meaning.proofs.Steps.{active, if-all, starts-ends, begin-step, left-behind, stays, first-before, first-left, stop-silent, form-keyword}
 use Rattle.meaning.proofs.Passed.{Passed, done, begins, goes, madeOf, nothing-said, form-of, statements-all}
 use Rattle.meaning.proofs.Counted.{counts, wholeCount, share, shares-within}
@@ -80,7 +80,7 @@ part-le : (j q : ℕ) (s : Statement) → nameCount (s .form) q ≡ j → length
 unfolding part counts
 part-le j q s h = keep-le (λ i. eqb (i .pos) q) (counts j (s .form)) (λ i e. rw (eqb-true (i .pos) q e) (eq-eqb _ j h)) (s .items)
 
-names-le : (q : ℕ) (s : Statement) → length (namesAt q s) ≤ length (part q s)
+pub names-le : (q : ℕ) (s : Statement) → length (namesAt q s) ≤ length (part q s)
 unfolding part namesAt
 names-le q s = keep-le _ _ (λ i e. and-both (eqb (i .pos) q) (eqb (i .kind) kName) e .0) (s .items)
 
@@ -98,6 +98,10 @@ module _ {g : Gathered} (p : Passed outside noCounts g) (j : ℕ) (some : j < cN
       let u = joined-sum (λ s. if K (s .form) then f s else []) (share j) (g .rest) (all-of (λ s. if-le (K (s .form)) (f s) _
         (λ e. let a = h s e in let b = part-le j q s (n (s .form) e) in omega arith)) (g .rest)) in
       omega arith
+
+  pub kept-within : {B : Type 0} (K : ℕ → Bool) (q : ℕ) (f : Statement → List B) → ((k : ℕ) → K k ≡ true → nameCount k q ≡ j)
+      → ((s : Statement) → K (s .form) ≡ true → length (f s) ≤ length (part q s)) → length (joined f (keep (λ s. K (s .form)) (g .rest))) ≤ limit j
+  kept-within K q f n h = rw (joined-keep f (λ s. K (s .form)) (g .rest)) (at-within K q f n h)
 
   -- statements of some forms that count for j
   pub forms-within : (K : ℕ → Bool) → ((k : ℕ) → K k ≡ true → wholeCount k ≡ j) → length (keep (λ s. K (s .form)) (g .rest)) ≤ limit j
@@ -173,16 +177,17 @@ module _ (d : ℕ) (one : ltb 0 (home d) ≡ true) where
       let b = keep-joined (λ x. eqb (x .kind) d) declaredBy (firsts (home d)) declared-le ss in
       omega arith
 
--- the names of a kind, by what the sizes count: each name of the form that declares them, or each such statement where it has one name
+-- the names of a kind, by what the sizes count: each name of the form that declares them, or each such statement where it has one
+-- name; `object_r` is one more role
 module _ {g : Gathered} (p : Passed outside noCounts g) (d j : ℕ) (one : ltb 0 (home d) ≡ true) (some : j < cNone) where
-  pub names-within : nameCount (home d) pFirst ≡ j → length (keep (λ x. eqb (x .kind) d) (declared (g .rest))) ≤ oneIf (eqb dRole d) + limit j
-  names-within n =
+  pub names-within : {m : ℕ} → nameCount (home d) pFirst ≡ j → oneIf (eqb dRole d) + limit j ≤ m → length (keep (λ x. eqb (x .kind) d) (declared (g .rest))) ≤ m
+  names-within n l =
       let a = declared-firsts d one (g .rest) in
       let b = at-within p j some (λ k. eqb k (home d)) pFirst (namesAt pFirst) (λ k e. rw (eqb-true k (home d) e) n) (λ s e. names-le pFirst s) in
       omega arith
 
-  pub single-within : single (home d) ≡ true → wholeCount (home d) ≡ j → length (keep (λ x. eqb (x .kind) d) (declared (g .rest))) ≤ oneIf (eqb dRole d) + limit j
-  single-within o n =
+  pub single-within : {m : ℕ} → single (home d) ≡ true → wholeCount (home d) ≡ j → oneIf (eqb dRole d) + limit j ≤ m → length (keep (λ x. eqb (x .kind) d) (declared (g .rest))) ≤ m
+  single-within o n l =
       let a = declared-firsts d one (g .rest) in
       let b = first-within p j some (home d) o n in
       omega arith
