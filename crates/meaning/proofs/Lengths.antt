@@ -53,17 +53,37 @@ sum f [] = 0
 sum f (x ∷ l) = f x + sum f l
 
 -- ---- every element
-abbrev pub All : {A : Type 0} → (A → Type 0) → List A → Type 0
-All P [] = Unit {0}
-All P (x ∷ l) = P x × All P l
+pub data All {A : Type 0} (P : A → Type 0) : List A → Type 0 where
+  empty : All P []
+  more : {x : A} {l : List A} → P x → All P l → All P (x ∷ l)
 
 pub all-of : {A : Type 0} {P : A → Type 0} → ((x : A) → P x) → (l : List A) → All P l
-all-of f [] = tt
-all-of f (x ∷ l) = (f x, all-of f l)
+all-of f [] = empty
+all-of f (x ∷ l) = more (f x) (all-of f l)
 
-pub all-map : {A : Type 0} {P Q : A → Type 0} → ((x : A) → P x → Q x) → (l : List A) → All P l → All Q l
-all-map f [] h = tt
-all-map f (x ∷ l) h = (f x (h .0), all-map f l (h .1))
+pub all-map : {A : Type 0} {P Q : A → Type 0} {l : List A} → ((x : A) → P x → Q x) → All P l → All Q l
+all-map f empty = empty
+all-map f (more {x = x} h r) = more (f x h) (all-map f r)
+
+pub all-both : {A : Type 0} {P Q : A → Type 0} (l : List A) → All P l → All Q l → All (λ x. P x × Q x) l
+all-both [] h k = empty
+all-both (x ∷ l) (more h r) (more k s) = more (h, k) (all-both l r s)
+
+pub all-keep : {A : Type 0} {P Q : A → Type 0} (p : A → Bool) {l : List A} → ((x : A) → p x ≡ true → P x → Q x) → All P l → All Q (keep p l)
+all-keep p f empty = empty
+all-keep p f (more {x = x} h r) = bool-cases (p x) (λ e. rw e (more (f x e h) (all-keep p f r))) (λ e. rw e (all-keep p f r))
+
+pub all-each : {A B : Type 0} {Q : B → Type 0} (f : A → B) {l : List A} → All (λ x. Q (f x)) l → All Q (each f l)
+all-each f empty = empty
+all-each f (more h r) = more h (all-each f r)
+
+pub all-append : {A : Type 0} {P : A → Type 0} {s t : List A} → All P s → All P t → All P (s ++ t)
+all-append empty k = k
+all-append (more h r) k = more h (all-append r k)
+
+pub all-joined : {A B : Type 0} {Q : B → Type 0} (f : A → List B) {l : List A} → All (λ x. All Q (f x)) l → All Q (joined f l)
+all-joined f empty = empty
+all-joined f (more h r) = all-append h (all-joined f r)
 
 -- ---- lengths
 pub length-each : {A B : Type 0} (f : A → B) (l : List A) → length (each f l) ≡ length l
@@ -81,15 +101,15 @@ keep-le p q f [] = omega arith
 keep-le p q f (x ∷ l) = let r = keep-le p q f l in let o = one-le (p x) (q x) (f x) in omega (arith, keep-if p true x l, keep-if q true x l)
 
 -- what is kept, and what is joined, is no longer than a sum that bounds it element by element
-pub keep-sum : {A : Type 0} (p : A → Bool) (f : A → ℕ) (l : List A) → All (λ x. oneIf (p x) ≤ f x) l → length (keep p l) ≤ sum f l
+pub keep-sum : {A : Type 0} (p : A → Bool) (f : A → ℕ) {l : List A} → All (λ x. oneIf (p x) ≤ f x) l → length (keep p l) ≤ sum f l
 unfolding sum
-keep-sum p f [] h = omega arith
-keep-sum p f (x ∷ l) h = let r = keep-sum p f l (h .1) in omega (arith, keep-if p true x l)
+keep-sum p f empty = omega arith
+keep-sum p f (more {x = x} {l = l} h r) = let i = keep-sum p f r in omega (arith, keep-if p true x l)
 
-pub joined-sum : {A B : Type 0} (g : A → List B) (f : A → ℕ) (l : List A) → All (λ x. length (g x) ≤ f x) l → length (joined g l) ≤ sum f l
+pub joined-sum : {A B : Type 0} (g : A → List B) (f : A → ℕ) {l : List A} → All (λ x. length (g x) ≤ f x) l → length (joined g l) ≤ sum f l
 unfolding sum
-joined-sum g f [] h = omega arith
-joined-sum g f (x ∷ l) h = let r = joined-sum g f l (h .1) in omega (arith, length-append (g x) (joined g l))
+joined-sum g f empty = omega arith
+joined-sum g f (more {x = x} {l = l} h r) = let i = joined-sum g f r in omega (arith, length-append (g x) (joined g l))
 
 pub keep-none : {A : Type 0} (p : A → Bool) → ((x : A) → p x ≡ true → ⊥) → (l : List A) → length (keep p l) ≡ 0
 keep-none p f [] = refl

@@ -5,4 +5,5 @@ pub mod Passed
 pub mod Counted
 pub mod Limits
 pub mod Own
+pub mod Kept
 pub mod Counts

@@ -16,7 +16,7 @@ use Rattle.meaning.specs.Statements.{Seen, begun, outside, step, inE, of
 use Rattle.meaning.specs.Sizes.{ownLimit, Counts, noCounts, counted, longestName, expressionWords, commonPermissions, ownPermissions, ownBesideCommon}
 use Rattle.meaning.specs.Rules.{constraintWords}
 use Rattle.meaning.specs.Keywords.{starts, kName, kClass, kCommon, kPerms}
-use Rattle.meaning.proofs.Lengths.{bool-cases, and-both, or-cases, and-false, oneIf, All, all-of, all-map, keep-if}
+use Rattle.meaning.proofs.Lengths.{bool-cases, and-both, or-cases, and-false, oneIf, All, empty, more, all-map, keep-if}
 use Rattle.meaning.proofs.Steps.{active, active-starts, left-behind, say-cases, stop-silent, Form, none, own, perms, types, roles, form-keyword}
 use Rattle.meaning.proofs.Passed.{Fine, Passed, done, begins, goes, madeOf, nothing-said, tail-cases, form-of, statements-all}
 
@@ -65,16 +65,16 @@ expression-limit st k s i =
 
 pub few-words : {g : Gathered} → Passed outside noCounts g → All (λ s. length (constraintWords s) ≤ expressionWords) (g .rest)
 unfolding constraintWords
-few-words {g} p =
-    all-map (λ s h. h refl) (g .rest) (own-few (λ k. true) (λ i. within pTest pTypes (i .pos)) expressionWords (omega arith)
+few-words p =
+    all-map (λ s h. h refl) (own-few (λ k. true) (λ i. within pTest pTypes (i .pos)) expressionWords (omega arith)
     (λ st w s h e. expression-limit st (w .kind) s (unfold itemOf in e)) (λ k. true) (λ k f o a h. refl) p)
 
 -- ---- permissions
 module _ (k q m : ℕ) (some : 0 < m) (limit : (st : Seen) → st .kw ≡ k → st .pos ≡ q → ownLimit st kName ≡ m) (f : ℕ) (keyword : (x : ℕ) → Form x f → starts x ≡ true → x ≡ k) where
   few-names : {g : Gathered} → Passed outside noCounts g → All (λ s. s .form ≡ f → length (namesAt q s) ≤ m) (g .rest)
   unfolding namesAt itemOf
-  few-names {g} p =
-      all-map (λ s h e. h (eq-eqb (s .form) f e)) (g .rest) (own-few (λ x. eqb x k) (λ i. eqb (i .pos) q && eqb (i .kind) kName) m some
+  few-names p =
+      all-map (λ s h e. h (eq-eqb (s .form) f e)) (own-few (λ x. eqb x k) (λ i. eqb (i .pos) q && eqb (i .kind) kName) m some
       (λ st w s h e. let b = and-both (eqb (st .pos) q) (eqb (w .kind) kName) e in
         rw (eqb-true (w .kind) kName (b .1)) (limit st (eqb-true (st .kw) k h) (eqb-true (st .pos) q (b .0))))
       (λ x. eqb x f) (λ x y o a h. eq-eqb x k (keyword x (rw (eqb-true y f h) at o) a)) p)
@@ -104,9 +104,9 @@ Short i = eqb (i .kind) kName ≡ true → length (i .text) ≤ longestName
 
 short-items : {st : Seen} {c : Counts} {g : Gathered} → Passed st c g → All Short (g .items)
 unfolding itemOf
-short-items done = tt
-short-items (begins w b a f p) = tt
-short-items {st} (goes w a f p) = bool-cases (says st (w .kind)) (λ e. rw e (f .name, short-items p)) (λ e. rw e (short-items p))
+short-items done = empty
+short-items (begins w b a f p) = empty
+short-items {st} (goes w a f p) = bool-cases (says st (w .kind)) (λ e. rw e (more (f .name) (short-items p))) (λ e. rw e (short-items p))
 
 pub short-names : {g : Gathered} → Passed outside noCounts g → All (λ s. All Short (s .items)) (g .rest)
 short-names = statements-all _ (λ k at b c r a z p. short-items p)

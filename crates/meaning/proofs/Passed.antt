@@ -19,7 +19,7 @@ use Rattle.meaning.specs.Statements.{Seen, begun, outside, step, ofE, It
 use Rattle.meaning.specs.Sizes.{limits, countOf, ownLimit, Counts, noCounts, counted, exceeds, placeOf, cNone, longestName, nestedParentheses}
 use Rattle.meaning.specs.Sizes.{Verdict, fits, ungrammatical, oversize, readFrom, readText}
 use Rattle.meaning.specs.Keywords.{kName, kLparen}
-use Rattle.meaning.proofs.Lengths.{bool-cases, or-neither, All}
+use Rattle.meaning.proofs.Lengths.{bool-cases, or-neither, All, empty, more}
 use Rattle.meaning.proofs.Steps.{active, active-starts, starts-ends, begin-step, stays, keyword-kept, Form, none, form-at}
 
 -- ---- a text that fits, from some word on: what is gathered from there, and each word within the sizes
@@ -111,7 +111,7 @@ form-of {st} (goes {r = r} w a x p) =
 -- a statement begins with nothing counted of its own
 pub statements-all : {st : Seen} {c : Counts} {g : Gathered} (S : Statement → Type 0)
     → ((k p : ℕ) (b : Branch) (c : Counts) (r : Gathered) → active k ≡ true → c .own ≡ 0 → Passed (begun k) c r → S (madeOf p b r)) → Passed st c g → All S (g .rest)
-statements-all S f done = tt
+statements-all S f done = empty
 statements-all {st} {c} S f (begins {r = r} w b a x p) =
-    (f (w .kind) (w .at) b (counted st (w .kind) c) r a (unfold counted in rw (active-starts (w .kind) a)) p, statements-all S f p)
+    more (f (w .kind) (w .at) b (counted st (w .kind) c) r a (unfold counted in rw (active-starts (w .kind) a)) p) (statements-all S f p)
 statements-all S f (goes w a x p) = statements-all S f p
