@@ -6,4 +6,5 @@ pub mod Counted
 pub mod Limits
 pub mod Own
 pub mod Kept
+pub mod Held
 pub mod Counts
