@@ -8,7 +8,7 @@ use native.Mathlib.Omega.{arith}
 use borrow.Author.Tests.{eqb-true, eq-eqb, ne-eqb, leb-true, lt-leb}
 use lib.Dec.{eqb, leb}
 use lib.ListN.{length, getD}
-use Rattle.meaning.specs.Plain.{if_then_else_, within, keep, each, joined}
+use Rattle.meaning.specs.Plain.{if_then_else_, keep, each, joined}
 use Rattle.meaning.specs.Words.{wordsOf}
 use Rattle.meaning.specs.Statements.{Item, Statement, statementsOf, outside, Gathered, part, namesAt, ofForm, pFirst, pSecond, pThird, pFourth, pClass, pTest}
 use Rattle.meaning.specs.Sizes.{fits, readText, limits, nameCount, formCount, noCounts, longestName, expressionWords, commonPermissions, ownPermissions, ownBesideCommon}
@@ -17,31 +17,51 @@ use Rattle.meaning.specs.Names.{Decl, declared, dType, dAttribute, dRole
 use Rattle.meaning.specs.Permissions.{Name, Class, classOf, classesIn, classPart}
 use Rattle.meaning.specs.Sets.{Names, namesOf, nameOf, ofKind, aliasesBy, attributeOf}
 use Rattle.meaning.specs.Policy.{Policy}
-use Rattle.meaning.specs.Rules.{policyOf, Bound, typeEntries, typesIn, rolesIn, roleOf, userOf, switchOf, ruleOf, rulesOf, rowsOf, avStatements, typeRowsOf, classNumbers, aliasEntry, roleAllowOf, roleTransitionOf, ifOf, constrainOf, constraintWords}
+use Rattle.meaning.specs.Rules.{policyOf, Bound, typeEntries, typesIn, rolesIn, roleOf, userOf, switchOf, ruleOf, rulesOf, rowsOf, avStatements, typeRowsOf, classNumbers, aliasEntry, roleAllowOf, roleTransitionOf, ifOf, constrainOf, constraintWords, readTests, boolToken}
 use Rattle.meaning.specs.Keywords.{kType, kTypealias, kBool, kRoleTransition, kTypeTransition, kTypeMember, kAllow, kIf, kUser, kConstrain, kRoleAllow, isAv, isTypeRule}
-use Rattle.meaning.proofs.Lengths.{bool-cases, and-both, or-cases, and-false, oneIf, All, all-of, all-map, length-each, keep-le, keep-two, joined-each}
+use Rattle.meaning.proofs.Lengths.{bool-cases, and-both, or-cases, and-false, oneIf, All, all-of, all-map, all-keep, all-each, length-each, keep-le, keep-two, joined-each}
 use Rattle.meaning.proofs.Passed.{Passed, text-passed}
 use Rattle.meaning.proofs.Counted.{wholeCount}
+use Rattle.meaning.proofs.Own.{few-words, test-words, few-common, few-own, few-beside, short-names}
+use Rattle.meaning.proofs.Kept.{postfix-le, tests-le}
+use Rattle.meaning.proofs.Held.{few-perms, Fits, kind-fit, types-fit, roles-fit, aliases-fit, users-fit, bools-fit, classes-fit}
 use Rattle.meaning.proofs.Limits.{limit, at-within, forms-within, names-within, single-within, kept-within, names-le, home, single}
 
--- what an accepted text's policy may hold
-pub record Within (ss : List Statement) (n : Names) (p : Policy) : Type 0 where
-  pub types : length (p .types) ≤ limit cTypes
-  pub attributes : length (n .attributes) ≤ limit cAttributes
-  pub aliases : length (p .aliases) ≤ limit cAliases
-  pub classes : length (p .classes) ≤ limit cClasses
-  pub commons : length (ofKind dCommon (declared ss)) ≤ limit cCommons
-  pub roles : length (p .roles) ≤ limit cRoles + 1
-  pub users : length (p .users) ≤ limit cUsers
-  pub bools : length (p .bools) ≤ limit cBools
-  pub ifs : length (p .ifs) ≤ limit cIfs
-  pub rows : length (p .rows) ≤ limit cAvRows
-  pub typeRows : length (p .typeRows) ≤ limit cTypeRows
-  pub roleRules : length (p .roleAllows) + length (p .roleTransitions) ≤ limit cRoleRules
-  pub constrains : length (p .constrains) ≤ limit cConstrains
+abbrev pub policyIn : List Statement → Policy
+policyIn ss = policyOf (namesOf ss) ss
 
-each-le : {A B : Type 0} (f : A → B) (l : List A) {n : ℕ} → length l ≤ n → length (each f l) ≤ n
-each-le f l h = rw (length-each f l) h
+-- the sizes of 01, of the names and the policy of a text with the statements ss
+pub record Within (ss : List Statement) : Type 0 where
+  pub types : length (policyIn ss .types) ≤ limit cTypes
+  pub attributes : length (namesOf ss .attributes) ≤ limit cAttributes
+  pub aliases : length (policyIn ss .aliases) ≤ limit cAliases
+  pub classes : length (policyIn ss .classes) ≤ limit cClasses
+  pub commons : length (ofKind dCommon (declared ss)) ≤ limit cCommons
+  pub roles : length (policyIn ss .roles) ≤ limit cRoles + 1
+  pub users : length (policyIn ss .users) ≤ limit cUsers
+  pub bools : length (policyIn ss .bools) ≤ limit cBools
+  pub perms : All (λ c. length (c .perms) ≤ ownPermissions) (policyIn ss .classes)
+  pub ifs : length (policyIn ss .ifs) ≤ limit cIfs
+  pub rows : length (policyIn ss .rows) ≤ limit cAvRows
+  pub typeRows : length (policyIn ss .typeRows) ≤ limit cTypeRows
+  pub roleRules : length (policyIn ss .roleAllows) + length (policyIn ss .roleTransitions) ≤ limit cRoleRules
+  pub constrains : length (policyIn ss .constrains) ≤ limit cConstrains
+  -- the words of expressions, and what is kept of them
+  pub ifWords : All (λ s. length (part pTest s) ≤ expressionWords) (ofForm kIf ss)
+  pub ifCodes : All (λ c. length c ≤ expressionWords) (policyIn ss .ifs)
+  pub constrainWords : All (λ s. length (constraintWords s) ≤ expressionWords) (ofForm kConstrain ss)
+  pub constrainCodes : All (λ c. length (c .test) ≤ expressionWords) (policyIn ss .constrains)
+  -- the names as the names' lists have them, for the numbers and sets that are counted through them
+  pub userNames : length (namesOf ss .users) ≤ limit cUsers
+  pub boolNames : length (namesOf ss .bools) ≤ limit cBools
+  -- the bytes of names
+  pub typeBytes : All (λ t. Fits (t .name .text)) (policyIn ss .types)
+  pub attributeBytes : All (λ a. Fits (a .name)) (namesOf ss .attributes)
+  pub aliasBytes : All (λ a. Fits (a .name .text)) (policyIn ss .aliases)
+  pub classBytes : All (λ c. Fits (c .name .text) × All (λ x. Fits (x .text)) (c .perms)) (policyIn ss .classes)
+  pub roleBytes : All (λ r. Fits (r .name .text)) (policyIn ss .roles)
+  pub userBytes : All (λ u. Fits (u .name .text)) (policyIn ss .users)
+  pub boolBytes : All (λ b. Fits (b .name .text)) (policyIn ss .bools)
 
 entries-long : (n : Names) (bs : List Bound) (is : List Item) (i : ℕ) (ns : List Name) → length (typeEntries n bs is i ns) ≡ length ns
 unfolding typeEntries
@@ -74,12 +94,14 @@ module _ {g : Gathered} (p : Passed outside noCounts g) where
           (λ k e. or-cases (eqb k kRoleAllow) (eqb k kRoleTransition) e (λ z. rw (eqb-true k kRoleAllow z)) (λ z. rw (eqb-true k kRoleTransition z))) in
       omega arith
 
--- THE STATEMENT
-counts-within : {g : Gathered} → Passed outside noCounts g → Within (g .rest) (namesOf (g .rest)) (policyOf (namesOf (g .rest)) (g .rest))
-unfolding policyOf namesOf ofKind home nameCount oneIf classesIn typesIn single formCount wholeCount ofForm userOf switchOf aliasesBy rulesOf avStatements rowsOf ruleOf typeRowsOf
+-- ---- the whole
+counts-within : {g : Gathered} → Passed outside noCounts g → Within (g .rest)
+unfolding policyOf namesOf ofKind home nameCount oneIf classesIn classOf typesIn single formCount wholeCount ofForm userOf switchOf aliasesBy aliasEntry rulesOf avStatements rowsOf ruleOf typeRowsOf attributeOf ifOf constrainOf
 counts-within {g} p =
     let ss = g .rest in
     let n = namesOf (g .rest) in
+    let short = short-names p in
+    let words = few-words p in
     record {
       types = rw (entries-long, length-each nameOf) (names-within p dType cTypes refl (omega arith) refl (omega arith));
       attributes = rw (length-each (attributeOf _ _), length-each nameOf) (names-within p dAttribute cAttributes refl (omega arith) refl (omega arith));
@@ -90,9 +112,29 @@ counts-within {g} p =
       roles = rw (roles-long, length-each nameOf) (single-within p dRole cRoles refl (omega arith) refl refl (omega arith));
       users = kept-within p cUsers (omega arith) (λ k. eqb k kUser) pFirst (userOf n) (λ k e. rw (eqb-true k kUser e)) (λ s e. rw length-each (names-le pFirst s));
       bools = kept-within p cBools (omega arith) (λ k. eqb k kBool) pFirst switchOf (λ k e. rw (eqb-true k kBool e)) (λ s e. rw length-each (names-le pFirst s));
+      perms = all-each (classOf ss) (all-of (λ d. rw length-each (few-perms ss (few-common p) (few-own p) (few-beside p) (d .text))) (keep (λ d. eqb (d .kind) dClass) (declared ss)));
       ifs = rw (length-each (ifOf _)) (forms-within p cIfs (omega arith) (λ k. eqb k kIf) (λ k e. rw (eqb-true k kIf e)));
-      rows = rw joined-each (kept-within p cAvRows (omega arith) (λ k. isAv k) pClass (λ s. rowsOf (ruleOf n s)) (λ k e. simp (and-false, e)) (λ s e. rw (length-each, class-words (λ k. isAv k) refl n s e) (omega arith)));
+      rows = rw joined-each (kept-within p cAvRows (omega arith) (λ k. isAv k) pClass (λ s. rowsOf (ruleOf n s)) (λ k e. simp (and-false, e))
+          (λ s e. rw (length-each, class-words (λ k. isAv k) refl n s e) (omega arith)));
       typeRows = kept-within p cTypeRows (omega arith) (λ k. isTypeRule k) pClass (typeRowsOf n) type-rows (λ s e. rw (length-each, class-words (λ k. isTypeRule k) refl n s e) (omega arith));
       roleRules = rw (length-each (roleAllowOf _), length-each (roleTransitionOf _)) (role-rules p);
       constrains = rw (length-each (constrainOf _)) (forms-within p cConstrains (omega arith) (λ k. eqb k kConstrain) (λ k e. rw (eqb-true k kConstrain e)));
+      ifWords = all-keep _ (λ s e h. omega (arith, test-words s)) words;
+      ifCodes = all-each (ifOf n) (all-keep _ (λ s e h. omega (arith, test-words s, length-each (boolToken n) (part pTest s), postfix-le [] (each (boolToken n) (part pTest s)))) words);
+      constrainWords = all-keep _ (λ s e h. h) words;
+      constrainCodes = all-each (constrainOf n) (all-keep _ (λ s e h. omega (arith, postfix-le [] (readTests n (constraintWords s) .tokens), tests-le n (constraintWords s))) words);
+      userNames = rw (length-each nameOf) (names-within p dUser cUsers refl (omega arith) refl (omega arith));
+      boolNames = rw (length-each nameOf) (names-within p dBool cBools refl (omega arith) refl (omega arith));
+      typeBytes = types-fit ss short n _ _ 0 _ (kind-fit ss short dType);
+      attributeBytes = all-each (attributeOf ss _) (kind-fit ss short dAttribute);
+      aliasBytes = all-each (aliasEntry n) (aliases-fit ss short);
+      classBytes = classes-fit ss short;
+      roleBytes = roles-fit ss short n _ (kind-fit ss short dRole);
+      userBytes = users-fit ss short n kUser;
+      boolBytes = bools-fit ss short kBool;
     }
+
+-- THE STATEMENT: what is read without refusal is within the sizes
+pub within : (s : List ℕ) → readText (length s) (wordsOf s) ≡ fits → Within (statementsOf (wordsOf s))
+unfolding statementsOf
+within s e = counts-within (text-passed (length s) (wordsOf s) e)

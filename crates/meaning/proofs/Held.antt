@@ -73,7 +73,7 @@ module _ (ss : List Statement) (short : All (λ s. All Short (s .items)) ss) whe
     is-name : (s : Statement) (i : Item) → within dType dBool (declares s i) ≡ true → eqb (i .kind) kName ≡ true
     is-name s i = bool-cases (eqb (i .kind) kName) (λ n h. n) (λ n. rw n (λ h. absurd (false≢true h)))
 
-  kind-fit : (d : ℕ) → All (λ x. Fits (x .text)) (ofKind d (declared ss))
+  pub kind-fit : (d : ℕ) → All (λ x. Fits (x .text)) (ofKind d (declared ss))
   unfolding ofKind nameOf
   kind-fit d = all-each nameOf (all-keep _ (λ x e h. h) declared-fit)
 

@@ -12,11 +12,11 @@ use lib.Dec.{eqb, leb}
 use lib.ListN.{length}
 use Rattle.meaning.specs.Plain.{if_then_else_, within, keep}
 use Rattle.meaning.specs.Words.{Word}
-use Rattle.meaning.specs.Statements.{Seen, begun, outside, step, inE, ofE, Item, Statement, saying, idle, says, itemOf, Gathered, namesAt, pSecond, pFourth, pTest, pTypes}
+use Rattle.meaning.specs.Statements.{Seen, begun, outside, step, inE, ofE, Item, Statement, saying, idle, says, itemOf, Gathered, part, namesAt, pSecond, pFourth, pTest, pTypes}
 use Rattle.meaning.specs.Sizes.{ownLimit, Counts, noCounts, counted, longestName, expressionWords, commonPermissions, ownPermissions, ownBesideCommon}
 use Rattle.meaning.specs.Rules.{constraintWords}
 use Rattle.meaning.specs.Keywords.{starts, kName, kClass, kCommon, kPerms}
-use Rattle.meaning.proofs.Lengths.{bool-cases, and-both, or-cases, and-false, oneIf, All, empty, more, all-map, keep-if}
+use Rattle.meaning.proofs.Lengths.{bool-cases, and-both, or-cases, and-false, oneIf, All, empty, more, all-map, keep-if, keep-le}
 use Rattle.meaning.proofs.Steps.{active, active-starts, left-behind, say-cases, stop-silent, Form, none, own, perms, types, roles, form-keyword}
 use Rattle.meaning.proofs.Passed.{Fine, Passed, done, begins, goes, madeOf, nothing-said, tail-cases, form-of, statements-all}
 
@@ -68,6 +68,11 @@ unfolding constraintWords
 few-words p =
     all-map (λ s h. h refl) (own-few (λ k. true) (λ i. within pTest pTypes (i .pos)) expressionWords (omega arith)
     (λ st w s h e. expression-limit st (w .kind) s (unfold itemOf in e)) (λ k. true) (λ k f o a h. refl) p)
+
+-- those outside comparisons
+pub test-words : (s : Statement) → length (part pTest s) ≤ length (constraintWords s)
+unfolding part constraintWords
+test-words s = keep-le (λ (i : Item). eqb (i .pos) pTest) (λ i. within pTest pTypes (i .pos)) (λ i e. rw (eqb-true (i .pos) pTest e)) (s .items)
 
 -- ---- permissions
 module _ (k q m : ℕ) (some : 0 < m) (limit : (st : Seen) → st .kw ≡ k → st .pos ≡ q → ownLimit st kName ≡ m) (f : ℕ) (keyword : (x : ℕ) → Form x f → starts x ≡ true → x ≡ k) where
