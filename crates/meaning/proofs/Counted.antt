@@ -4,21 +4,22 @@
 -- Assumes nothing.
 use mathlib.Core.Path.{_≡_, refl, sym, _∙_}
 use mathlib.Core.Bool.{Bool, true, false, not, _&&_, _||_, false≢true}
-use mathlib.Core.List.{List, [], _∷_}
+use mathlib.Core.List.{List}
 use Prim.Native.Nat.{ℕ, _+_, _-_, _≤_, _<_}
 use native.Mathlib.Omega.{arith}
 use borrow.Author.Tests.{eqb-true, eqb-false, ne-eqb, leb-true, lt-ltb}
-use lib.Dec.{eqb, leb, ltb}
+use lib.Dec.{eqb, leb}
 use lib.ListN.{length, getD, set, length-set}
 use lib.Seq.{getD-set-same, getD-set-other}
 use Rattle.meaning.specs.Plain.{if_then_else_, keep}
 use Rattle.meaning.specs.Words.{Word}
-use Rattle.meaning.specs.Statements.{Seen, outside, inE, ofE, step, Item, Statement, saying, idle, says, itemOf, ends, formAt, Gathered}
-use Rattle.meaning.specs.Statements.{pFirst, pSecond, pThird, pClass, pTest, pTypes}
+use Rattle.meaning.specs.Statements.{Seen, outside, inE, ofE, step, Item, Statement, saying, idle, says, itemOf, ends}
+use Rattle.meaning.specs.Statements.{formAt, Gathered, pFirst, pSecond, pThird, pClass, pTest, pTypes}
 use Rattle.meaning.specs.Sizes.{limits, nameCount, formCount, countOf, Counts, noCounts, counted, cIfs, cNone}
 use Rattle.meaning.specs.Keywords.{kClass, kCommon, kIf}
-use Rattle.meaning.proofs.Lengths.{bool-cases, and-both, or-cases, and-false, oneIf, one-le, sum, keep-if, keep-le}
-use Rattle.meaning.proofs.Steps.{active, active-starts, if-all, starts-ends, ends-silent, Form, none, own, perms, types, roles, form-keyword}
+use Rattle.meaning.proofs.Lengths.{bool-cases, if-all, and-both, or-cases, and-false, oneIf, one-le, sum, keep-if, keep-le}
+use Rattle.meaning.proofs.Steps.{active, active-starts, starts-ends, ends-silent, Form, none, own, perms, types, roles}
+use Rattle.meaning.proofs.Steps.{form-keyword}
 use Rattle.meaning.proofs.Passed.{Fine, Passed, done, begins, goes, tail-cases, form-of}
 
 -- ---- what a word counts for
@@ -85,10 +86,12 @@ module _ (j : ℕ) (some : j < cNone) where
       × (oneIf (eqb (countOf st (w .kind)) j) ≤ getD limits j 0 - getD (c .totals) j 0)
   adds st w c l f =
       let n : ℕ = countOf st (w .kind) in
-      let a : getD (counted st (w .kind) c .totals) j 0 ≡ getD (c .totals) j 0 + oneIf (eqb (countOf st (w .kind)) j) = unfold counted in one-more (c .totals) (countOf st (w .kind)) (omega arith) in
-      (a, bool-cases (eqb (countOf st (w .kind)) j)
-      (λ e. let z : n ≡ j = eqb-true n j e in let t = (rw z at (f .total)) (lt-ltb j cNone some) in omega arith)
-      (λ e. rw e (unfold oneIf in omega arith)))
+      let a : getD (counted st (w .kind) c .totals) j 0 ≡ getD (c .totals) j 0 + oneIf (eqb (countOf st (w .kind)) j) = unfold counted in one-more (c .totals) (countOf st (w .kind)) (omega arith) in (
+        a,
+        bool-cases (eqb (countOf st (w .kind)) j)
+            (λ e. let z : n ≡ j = eqb-true n j e in let t = (rw z at (f .total)) (lt-ltb j cNone some) in omega arith)
+            (λ e. rw e (unfold oneIf in omega arith)),
+      )
 
 -- ---- what a statement counts for: its items by their positions, and its form
 unfoldable pub counts : ℕ → ℕ → Item → Bool

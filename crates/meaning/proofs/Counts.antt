@@ -1,31 +1,39 @@
 -- x
 -- Assumes nothing.
 use mathlib.Core.Path.{_≡_, refl, sym, ap, _∙_}
-use mathlib.Core.Bool.{Bool, true, false, not, _&&_, _||_, false≢true}
-use mathlib.Core.List.{List, [], _∷_, _++_}
-use Prim.Native.Nat.{ℕ, suc, _+_, _≤_, _<_}
+use mathlib.Core.Bool.{Bool, true, false, _||_, false≢true}
+use mathlib.Core.List.{List, [], _∷_}
+use Prim.Native.Nat.{ℕ, suc, _+_, _≤_}
 use native.Mathlib.Omega.{arith}
-use borrow.Author.Tests.{eqb-true, eq-eqb, ne-eqb, leb-true, lt-leb}
+use borrow.Author.Tests.{eqb-true, ne-eqb, leb-true, lt-leb}
 use lib.Dec.{eqb, leb}
-use lib.ListN.{length, getD}
-use Rattle.meaning.specs.Plain.{if_then_else_, keep, each, joined}
+use lib.ListN.{length}
+use Rattle.meaning.specs.Plain.{keep, each}
 use Rattle.meaning.specs.Words.{wordsOf}
-use Rattle.meaning.specs.Statements.{Item, Statement, statementsOf, outside, Gathered, part, namesAt, ofForm, pFirst, pSecond, pThird, pFourth, pClass, pTest}
-use Rattle.meaning.specs.Sizes.{fits, readText, limits, nameCount, formCount, noCounts, longestName, expressionWords, commonPermissions, ownPermissions, ownBesideCommon}
-use Rattle.meaning.specs.Sizes.{cTypes, cAttributes, cAliases, cClasses, cCommons, cRoles, cUsers, cBools, cAvRows, cTypeRows, cRoleRules, cIfs, cConstrains, cNone}
-use Rattle.meaning.specs.Names.{Decl, declared, dType, dAttribute, dRole, dUser, dClass, dCommon, dBool}
-use Rattle.meaning.specs.Permissions.{Name, Class, classOf, classesIn, classPart}
+use Rattle.meaning.specs.Statements.{Item, Statement, statementsOf, outside, Gathered, part, ofForm, pFirst, pThird, pClass}
+use Rattle.meaning.specs.Statements.{pTest}
+use Rattle.meaning.specs.Sizes.{fits, readText, nameCount, formCount, noCounts, expressionWords, ownPermissions, cTypes}
+use Rattle.meaning.specs.Sizes.{cAttributes, cAliases, cClasses, cCommons, cRoles, cUsers, cBools, cAvRows, cTypeRows}
+use Rattle.meaning.specs.Sizes.{cRoleRules, cIfs, cConstrains}
+use Rattle.meaning.specs.Names.{declared, dType, dAttribute, dRole, dUser, dClass, dCommon, dBool}
+use Rattle.meaning.specs.Permissions.{Name, classOf, classesIn, classPart}
 use Rattle.meaning.specs.Sets.{Names, namesOf, nameOf, ofKind, aliasesBy, attributeOf}
 use Rattle.meaning.specs.Policy.{Policy}
-use Rattle.meaning.specs.Rules.{policyOf, Bound, typeEntries, typesIn, rolesIn, roleOf, userOf, switchOf, ruleOf, rulesOf, rowsOf, avStatements, typeRowsOf, classNumbers, aliasEntry, roleAllowOf, roleTransitionOf, ifOf, constrainOf, constraintWords, readTests, boolToken}
-use Rattle.meaning.specs.Keywords.{kType, kTypealias, kBool, kRoleTransition, kTypeTransition, kTypeMember, kAllow, kIf, kUser, kConstrain, kRoleAllow, isAv, isTypeRule}
-use Rattle.meaning.proofs.Lengths.{bool-cases, and-both, or-cases, and-false, oneIf, All, all-of, all-map, all-keep, all-each, length-each, keep-le, keep-two, joined-each}
+use Rattle.meaning.specs.Rules.{policyOf, Bound, typeEntries, typesIn, rolesIn, roleOf, userOf, switchOf, ruleOf, rulesOf}
+use Rattle.meaning.specs.Rules.{rowsOf, avStatements, typeRowsOf, classNumbers, aliasEntry, roleAllowOf, roleTransitionOf}
+use Rattle.meaning.specs.Rules.{ifOf, constrainOf, constraintWords, readTests, boolToken}
+use Rattle.meaning.specs.Keywords.{kType, kTypealias, kBool, kRoleTransition, kTypeTransition, kTypeMember, kAllow, kIf}
+use Rattle.meaning.specs.Keywords.{kUser, kConstrain, kRoleAllow, isAv, isTypeRule}
+use Rattle.meaning.proofs.Lengths.{and-both, or-cases, and-false, oneIf, All, all-of, all-keep, all-each, length-each}
+use Rattle.meaning.proofs.Lengths.{keep-two, joined-each}
 use Rattle.meaning.proofs.Passed.{Passed, text-passed}
 use Rattle.meaning.proofs.Counted.{wholeCount}
 use Rattle.meaning.proofs.Own.{few-words, test-words, few-common, few-own, few-beside, short-names}
 use Rattle.meaning.proofs.Kept.{postfix-le, tests-le}
-use Rattle.meaning.proofs.Held.{few-perms, Fits, kind-fit, types-fit, roles-fit, aliases-fit, users-fit, bools-fit, classes-fit}
-use Rattle.meaning.proofs.Limits.{limit, at-within, forms-within, names-within, single-within, kept-within, names-le, home, single}
+use Rattle.meaning.proofs.Held.{few-perms, Fits, kind-fit, types-fit, roles-fit, aliases-fit, users-fit, bools-fit}
+use Rattle.meaning.proofs.Held.{classes-fit}
+use Rattle.meaning.proofs.Limits.{limit, at-within, forms-within, names-within, single-within, kept-within, names-le, home}
+use Rattle.meaning.proofs.Limits.{single}
 
 abbrev pub policyIn : List Statement → Policy
 policyIn ss = policyOf (namesOf ss) ss
@@ -89,9 +97,9 @@ module _ {g : Gathered} (p : Passed outside noCounts g) where
   unfolding ofForm wholeCount formCount
   role-rules =
       let a = keep-two {A = Statement} (λ s. eqb (s .form) kRoleAllow) (λ s. eqb (s .form) kRoleTransition) (λ s. eqb (s .form) kRoleAllow || eqb (s .form) kRoleTransition)
-          (λ s e. rw e) (λ s e. rw (eqb-true (s .form) kRoleTransition e)) (λ s e. rw (eqb-true (s .form) kRoleAllow e)) (g .rest) in
+      (λ s e. rw e) (λ s e. rw (eqb-true (s .form) kRoleTransition e)) (λ s e. rw (eqb-true (s .form) kRoleAllow e)) (g .rest) in
       let b = forms-within p cRoleRules (omega arith) (λ k. eqb k kRoleAllow || eqb k kRoleTransition)
-          (λ k e. or-cases (eqb k kRoleAllow) (eqb k kRoleTransition) e (λ z. rw (eqb-true k kRoleAllow z)) (λ z. rw (eqb-true k kRoleTransition z))) in
+      (λ k e. or-cases (eqb k kRoleAllow) (eqb k kRoleTransition) e (λ z. rw (eqb-true k kRoleAllow z)) (λ z. rw (eqb-true k kRoleTransition z))) in
       omega arith
 
 -- ---- the whole

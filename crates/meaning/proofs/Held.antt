@@ -2,24 +2,25 @@
 -- and 16 of its own or 32 of its own; and each name has at most 63 bytes.
 -- Each is read off the list's definition, part by part.
 -- Assumes nothing.
-use mathlib.Core.Path.{_≡_, refl, sym, ap, _∙_}
-use mathlib.Core.Bool.{Bool, true, false, not, _&&_, _||_, false≢true}
+use mathlib.Core.Path.{_≡_}
+use mathlib.Core.Bool.{true, _||_, false≢true}
 use mathlib.Core.List.{List, [], _∷_, _++_}
 use Prim.Native.Nat.{ℕ, _+_, _≤_}
 use native.Mathlib.Omega.{arith}
 use borrow.Author.Tests.{eqb-true}
 use lib.Dec.{eqb}
 use lib.ListN.{length, length-append}
-use Rattle.meaning.specs.Plain.{if_then_else_, within, any, keep, each, joined, sameBytes}
-use Rattle.meaning.specs.Statements.{Item, Statement, part, namesAt, ofForm, pFirst, pSecond, pThird, pFourth}
+use Rattle.meaning.specs.Plain.{within, any, joined}
+use Rattle.meaning.specs.Statements.{Item, Statement, namesAt, ofForm, pFirst, pSecond, pThird, pFourth}
 use Rattle.meaning.specs.Sizes.{longestName, commonPermissions, ownPermissions, ownBesideCommon}
-use Rattle.meaning.specs.Names.{Decl, declaresAt, declares, declOf, objectR, declaredBy, declared, firstText, firstOf, isPermsOf, isCommon, commonPerms, inherited, dType, dBool}
-use Rattle.meaning.specs.Permissions.{Name, Class, statedPerms, permsOf, itemName, classOf, classesIn}
+use Rattle.meaning.specs.Names.{declares, declOf, objectR, declaredBy, declared, firstOf, isPermsOf, isCommon, commonPerms}
+use Rattle.meaning.specs.Names.{inherited, dType, dBool}
+use Rattle.meaning.specs.Permissions.{Name, statedPerms, permsOf, itemName, classOf, classesIn}
 use Rattle.meaning.specs.Sets.{Names, nameOf, ofKind, aliasesBy}
 use Rattle.meaning.specs.Rules.{Bound, typeEntries, rolesIn, roleOf, objectRole, userOf, switchOf}
 use Rattle.meaning.specs.Keywords.{bytes, kName, kCommon, kType, kTypealias, kPerms}
-use Rattle.meaning.proofs.Lengths.{bool-cases, and-both, All, empty, more, all-of, all-map, all-both, all-keep, all-each, all-append, all-joined}
-use Rattle.meaning.proofs.Steps.{if-all}
+use Rattle.meaning.proofs.Lengths.{bool-cases, if-all, and-both, All, empty, more, all-map, all-both, all-keep, all-each}
+use Rattle.meaning.proofs.Lengths.{all-append, all-joined}
 use Rattle.meaning.proofs.Own.{Short}
 
 -- ---- the first of some lists

@@ -1,14 +1,14 @@
 -- What is kept of an expression is no longer than its words: each word is put out at most once, at once or when it no longer waits.
 -- Assumes nothing.
-use mathlib.Core.Bool.{Bool, true, false}
-use mathlib.Core.List.{List, [], _∷_, _++_}
+use mathlib.Core.List.{List, [], _∷_}
 use Prim.Native.Nat.{ℕ, _+_, _≤_}
 use native.Mathlib.Omega.{arith}
 use lib.Dec.{eqb, leb}
 use lib.ListN.{length, length-append}
-use Rattle.meaning.specs.Statements.{Item, Statement, pTest}
+use Rattle.meaning.specs.Statements.{Item, pTest}
 use Rattle.meaning.specs.Sets.{Names}
-use Rattle.meaning.specs.Expressions.{Token, leaf, sign, negation, lpar, rpar, Waiting, wait, waitNot, paren, below, binds, bindsNot, loosest, popped, postfix}
+use Rattle.meaning.specs.Expressions.{Token, leaf, sign, negation, lpar, rpar, Waiting, wait, waitNot, paren, below, binds}
+use Rattle.meaning.specs.Expressions.{bindsNot, loosest, popped, postfix}
 use Rattle.meaning.specs.Rules.{readTests, behindTest}
 use Rattle.meaning.proofs.Lengths.{bool-cases}
 

@@ -10,13 +10,17 @@ use lib.Dec.{eqb, ltb}
 use lib.ListN.{length, getD}
 use Rattle.meaning.specs.Plain.{if_then_else_, within, keep, joined}
 use Rattle.meaning.specs.Words.{Word}
-use Rattle.meaning.specs.Statements.{Seen, begun, outside, step, ofE, Item, Statement, saying, idle, says, itemOf, ends, Gathered, part, namesAt, pFirst, pSecond, pThird, pFourth}
-use Rattle.meaning.specs.Sizes.{limits, nameCount, formCount, Counts, noCounts, cNone}
-use Rattle.meaning.specs.Keywords.{starts, kName, kOpen, kSemi, kClass, kCommon, kAttribute, kType, kTypealias, kBool, kRole, kIf, kElse, kUser, kPerms}
+use Rattle.meaning.specs.Statements.{Seen, outside, step, ofE, Item, Statement, saying, idle, says, itemOf, ends, Gathered}
+use Rattle.meaning.specs.Statements.{part, namesAt, pFirst, pSecond, pThird, pFourth}
+use Rattle.meaning.specs.Sizes.{limits, nameCount, Counts, noCounts, cNone}
+use Rattle.meaning.specs.Keywords.{starts, kName, kOpen, kSemi, kClass, kCommon, kAttribute, kType, kTypealias, kBool}
+use Rattle.meaning.specs.Keywords.{kRole, kIf, kElse, kUser, kPerms}
 use Rattle.meaning.specs.Names.{Decl, declaresAt, declares, declOf, objectR, declaredBy, declared, dType, dBool, dRole}
-use Rattle.meaning.proofs.Lengths.{bool-cases, and-both, or-cases, oneIf, one-le, one-two, sum, All, all-of, all-map, keep-if, keep-le, keep-sum, joined-sum, keep-none, keep-each, keep-keep, keep-joined, joined-keep}
-use Rattle.meaning.proofs.Steps.{active, if-all, starts-ends, begin-step, left-behind, stays, first-before, first-left, stop-silent, form-keyword}
-use Rattle.meaning.proofs.Passed.{Passed, done, begins, goes, madeOf, nothing-said, form-of, statements-all}
+use Rattle.meaning.proofs.Lengths.{bool-cases, if-all, and-both, or-cases, oneIf, one-le, one-two, All, all-of, all-map}
+use Rattle.meaning.proofs.Lengths.{keep-if, keep-le, keep-sum, joined-sum, keep-none, keep-each, keep-keep, keep-joined}
+use Rattle.meaning.proofs.Lengths.{joined-keep}
+use Rattle.meaning.proofs.Steps.{active, left-behind, stays, first-before, first-left, stop-silent, form-keyword}
+use Rattle.meaning.proofs.Passed.{Passed, done, begins, goes, nothing-said, form-of, statements-all}
 use Rattle.meaning.proofs.Counted.{counts, wholeCount, share, shares-within}
 
 -- ---- one name a statement, in `class` and `role`
@@ -63,7 +67,7 @@ one-name {st} (goes {r = r} w a f p) s =
     (λ e.
     let ih = one-name p (rw (stays st (w .kind) e) s) in
     let o = one-two (says st (w .kind) && named (itemOf st w)) (eqb (step st (w .kind) .pos) pFirst) (eqb (st .pos) pFirst) (λ h. moves-on st w s h .0)
-        (λ h. eq-eqb (st .pos) pFirst (first-before st (w .kind) e (eqb-true (step st (w .kind) .pos) pFirst h))) (λ h. moves-on st w s h .1) in
+    (λ h. eq-eqb (st .pos) pFirst (first-before st (w .kind) e (eqb-true (step st (w .kind) .pos) pFirst h))) (λ h. moves-on st w s h .1) in
     omega arith)
 
 all-single : {g : Gathered} → Passed outside noCounts g → All (λ s. single (s .form) ≡ true → length (namesAt pFirst s) ≤ 1) (g .rest)
@@ -96,7 +100,7 @@ module _ {g : Gathered} (p : Passed outside noCounts g) (j : ℕ) (some : j < cN
   at-within K q f n h =
       let t = shares-within j some p in
       let u = joined-sum (λ s. if K (s .form) then f s else []) (share j) (all-of (λ s. if-le (K (s .form)) (f s) _
-        (λ e. let a = h s e in let b = part-le j q s (n (s .form) e) in omega arith)) (g .rest)) in
+      (λ e. let a = h s e in let b = part-le j q s (n (s .form) e) in omega arith)) (g .rest)) in
       omega arith
 
   pub kept-within : {B : Type 0} (K : ℕ → Bool) (q : ℕ) (f : Statement → List B) → ((k : ℕ) → K k ≡ true → nameCount k q ≡ j)
@@ -117,7 +121,7 @@ module _ {g : Gathered} (p : Passed outside noCounts g) (j : ℕ) (some : j < cN
   first-within m o n =
       let t = shares-within j some p in
       let u = joined-sum (λ s. if eqb (s .form) m then namesAt pFirst s else []) (share j) (all-map (λ s h. if-le (eqb (s .form) m) (namesAt pFirst s) _
-        (λ e. let z : s .form ≡ m = eqb-true (s .form) m e in let a = h (rw z o) in let b = one-of (s .form) (ap wholeCount z ∙ n) in omega arith)) (all-single p)) in
+      (λ e. let z : s .form ≡ m = eqb-true (s .form) m e in let a = h (rw z o) in let b = one-of (s .form) (ap wholeCount z ∙ n) in omega arith)) (all-single p)) in
       omega arith where
         one-of : (k : ℕ) → wholeCount k ≡ j → oneIf (eqb (wholeCount k) j) ≡ 1
         one-of k e = ap oneIf (eq-eqb (wholeCount k) j e) ∙ (unfold oneIf in refl)

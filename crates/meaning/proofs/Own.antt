@@ -2,23 +2,26 @@
 -- word that is counted so is within the limit that holds for it, so what is left of a limit bounds the items still to come
 -- (`own-left`); a statement begins at 0. Names of 63 bytes at most are seen word by word.
 -- Assumes nothing.
-use mathlib.Core.Path.{_≡_, refl, sym, _∙_}
+use mathlib.Core.Path.{_≡_, refl}
 use mathlib.Core.Bool.{Bool, true, false, not, _&&_, _||_, false≢true}
-use mathlib.Core.List.{List, [], _∷_}
 use Prim.Native.Nat.{ℕ, _+_, _-_, _≤_, _<_}
 use native.Mathlib.Omega.{arith}
 use borrow.Author.Tests.{eqb-true, eq-eqb, ne-eqb, lt-ltb}
-use lib.Dec.{eqb, leb}
+use lib.Dec.{eqb}
 use lib.ListN.{length}
-use Rattle.meaning.specs.Plain.{if_then_else_, within, keep}
+use Rattle.meaning.specs.Plain.{within, keep}
 use Rattle.meaning.specs.Words.{Word}
-use Rattle.meaning.specs.Statements.{Seen, begun, outside, step, inE, ofE, Item, Statement, saying, idle, says, itemOf, Gathered, part, namesAt, pSecond, pFourth, pTest, pTypes}
-use Rattle.meaning.specs.Sizes.{ownLimit, Counts, noCounts, counted, longestName, expressionWords, commonPermissions, ownPermissions, ownBesideCommon}
+use Rattle.meaning.specs.Statements.{Seen, outside, inE, ofE, Item, Statement, saying, idle, says, itemOf, Gathered, part}
+use Rattle.meaning.specs.Statements.{namesAt, pSecond, pFourth, pTest, pTypes}
+use Rattle.meaning.specs.Sizes.{ownLimit, Counts, noCounts, counted, longestName, expressionWords, commonPermissions}
+use Rattle.meaning.specs.Sizes.{ownPermissions, ownBesideCommon}
 use Rattle.meaning.specs.Rules.{constraintWords}
 use Rattle.meaning.specs.Keywords.{starts, kName, kClass, kCommon, kPerms}
-use Rattle.meaning.proofs.Lengths.{bool-cases, and-both, or-cases, and-false, oneIf, All, empty, more, all-map, keep-if, keep-le}
-use Rattle.meaning.proofs.Steps.{active, active-starts, left-behind, say-cases, stop-silent, Form, none, own, perms, types, roles, form-keyword}
-use Rattle.meaning.proofs.Passed.{Fine, Passed, done, begins, goes, madeOf, nothing-said, tail-cases, form-of, statements-all}
+use Rattle.meaning.proofs.Lengths.{bool-cases, and-both, or-cases, and-false, oneIf, All, empty, more, all-map, keep-if}
+use Rattle.meaning.proofs.Lengths.{keep-le}
+use Rattle.meaning.proofs.Steps.{active, active-starts, left-behind, say-cases, stop-silent, Form, none, own, perms, types}
+use Rattle.meaning.proofs.Steps.{roles, form-keyword}
+use Rattle.meaning.proofs.Passed.{Fine, Passed, done, begins, goes, nothing-said, tail-cases, form-of, statements-all}
 
 -- a word that counts adds one, and that stays within its limit
 own-adds : (st : Seen) (w : Word) (c : Counts) (m : ℕ) (b : Bool) → 0 < m → (b ≡ true → ownLimit st (w .kind) ≡ m) → starts (w .kind) ≡ false → Fine st w (counted st (w .kind) c)
@@ -45,7 +48,7 @@ module _ (K : ℕ → Bool) (q : Item → Bool) (m : ℕ) (some : 0 < m)
       (λ z.
       let t : length (keep q (r .items)) ≤ m - counted st (w .kind) c .own = tail-cases st (w .kind) a p (λ e. own-left p (rw e h)) (λ e. rw e (omega arith)) in
       let o = own-adds st w c m (says st (w .kind) && q (itemOf st w)) some
-          (λ y. let s = and-both (says st (w .kind)) (q (itemOf st w)) y in limit st w (s .0) h (s .1)) z f in
+      (λ y. let s = and-both (says st (w .kind)) (q (itemOf st w)) y in limit st w (s .0) h (s .1)) z f in
       omega arith)
 
   own-few : {g : Gathered} (F : ℕ → Bool) → ((k f : ℕ) → Form k f → starts k ≡ true → F f ≡ true → K k ≡ true)
@@ -81,7 +84,7 @@ module _ (k q m : ℕ) (some : 0 < m) (limit : (st : Seen) → st .kw ≡ k → 
   few-names p =
       all-map (λ s h e. h (eq-eqb (s .form) f e)) (own-few (λ x. eqb x k) (λ i. eqb (i .pos) q && eqb (i .kind) kName) m some
       (λ st w s h e. let b = and-both (eqb (st .pos) q) (eqb (w .kind) kName) e in
-        rw (eqb-true (w .kind) kName (b .1)) (limit st (eqb-true (st .kw) k h) (eqb-true (st .pos) q (b .0))))
+      rw (eqb-true (w .kind) kName (b .1)) (limit st (eqb-true (st .kw) k h) (eqb-true (st .pos) q (b .0))))
       (λ x. eqb x f) (λ x y o a h. eq-eqb x k (keyword x (rw (eqb-true y f h) at o) a)) p)
 
 class-perms : {k f : ℕ} → Form k f → f ≡ kPerms → starts k ≡ true → k ≡ kClass

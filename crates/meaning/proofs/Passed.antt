@@ -3,8 +3,8 @@
 -- From it: outside statements nothing is said, the form is one of the keyword's, and what holds of each statement that a
 -- reading begins with holds of all.
 -- Assumes nothing.
-use mathlib.Core.Path.{_≡_, refl, sym, _∙_, subst}
-use mathlib.Core.Bool.{Bool, true, false, not, _&&_, _||_, false≢true}
+use mathlib.Core.Path.{_≡_, refl, subst}
+use mathlib.Core.Bool.{Bool, true, false, _&&_, false≢true}
 use mathlib.Core.List.{List, [], _∷_}
 use mathlib.Core.Logic.{_⊎_, inl, inr}
 use Prim.Native.Nat.{ℕ, _≤_}
@@ -15,9 +15,10 @@ use lib.ListN.{length, getD}
 use Rattle.meaning.specs.Plain.{if_then_else_}
 use Rattle.meaning.specs.Words.{Word}
 use Rattle.meaning.specs.Grammar.{G, policy, left, isNone}
-use Rattle.meaning.specs.Statements.{Seen, begun, outside, step, ofE, Item, Branch, Statement, says, itemOf, ends, formAt, Gathered, gather, statementsOf}
-use Rattle.meaning.specs.Sizes.{limits, countOf, ownLimit, Counts, noCounts, counted, exceeds, placeOf, cNone, longestName, nestedParentheses}
-use Rattle.meaning.specs.Sizes.{Verdict, fits, ungrammatical, oversize, readFrom, readText}
+use Rattle.meaning.specs.Statements.{Seen, begun, outside, step, ofE, Item, Branch, Statement, says, itemOf, ends, formAt}
+use Rattle.meaning.specs.Statements.{Gathered, gather}
+use Rattle.meaning.specs.Sizes.{limits, countOf, ownLimit, Counts, noCounts, counted, exceeds, placeOf, cNone, longestName}
+use Rattle.meaning.specs.Sizes.{nestedParentheses, Verdict, fits, ungrammatical, oversize, readFrom, readText}
 use Rattle.meaning.specs.Keywords.{kName, kLparen}
 use Rattle.meaning.proofs.Lengths.{bool-cases, or-neither, All, empty, more}
 use Rattle.meaning.proofs.Steps.{active, active-starts, starts-ends, begin-step, stays, keyword-kept, Form, none, form-at}

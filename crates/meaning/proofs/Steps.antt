@@ -3,19 +3,21 @@
 -- statement comes to is its keyword, or one of three that only `class`, `role` and `allow` come to (`Form`).
 -- Each is by the tests in the definition, in their order.
 -- Assumes nothing.
-use mathlib.Core.Path.{_≡_, refl, sym, ap, _∙_, subst}
+use mathlib.Core.Path.{_≡_, refl, sym, _∙_, subst}
 use mathlib.Core.Bool.{Bool, true, false, not, _&&_, _||_, false≢true}
 use mathlib.Core.Logic.{_⊎_, inl, inr}
 use Prim.Native.Nat.{ℕ, _≤_, _<_}
 use native.Mathlib.Omega.{arith}
-use borrow.Author.Tests.{eqb-true, ltb-false, not-true}
-use lib.Dec.{eqb, leb, ltb}
+use borrow.Author.Tests.{eqb-true, ltb-false}
+use lib.Dec.{eqb, ltb}
 use Rattle.meaning.specs.Plain.{if_then_else_, within}
-use Rattle.meaning.specs.Statements.{Seen, begun, outside, moved, signed, opened, inE, comparing, behind, compared, stepE, stepS, step}
-use Rattle.meaning.specs.Statements.{pFirst, pSecond, pThird, pClass, pOver, pTest, pBehind, minus, ofE, saying, says, ends, formAt}
-use Rattle.meaning.specs.Keywords.{kName, kOpen, kClose, kLparen, kRparen, kSemi, kColon, kComma, kTilde, kStar, kMinus, kClass, kCommon, kRole, kAllow}
-use Rattle.meaning.specs.Keywords.{kIf, kElse, kConstrain, kInherits, kAlias, kTrue, kFalse, kSelf, kU1, kU2, kR1, kR2, kPerms, kRoleTypes, kRoleAllow, starts, isTerm}
-use Rattle.meaning.proofs.Lengths.{bool-cases, and-both, or-cases, and-false}
+use Rattle.meaning.specs.Statements.{Seen, begun, outside, moved, inE, comparing, behind, compared, stepE, stepS, step}
+use Rattle.meaning.specs.Statements.{pFirst, pSecond, pThird, pClass, pOver, pTest, pBehind, minus, ofE, saying, says, ends}
+use Rattle.meaning.specs.Statements.{formAt}
+use Rattle.meaning.specs.Keywords.{kName, kOpen, kClose, kLparen, kRparen, kSemi, kColon, kComma, kTilde, kStar, kMinus}
+use Rattle.meaning.specs.Keywords.{kClass, kCommon, kRole, kAllow, kIf, kElse, kConstrain, kInherits, kAlias, kTrue, kFalse}
+use Rattle.meaning.specs.Keywords.{kSelf, kU1, kU2, kR1, kR2, kPerms, kRoleTypes, kRoleAllow, starts, isTerm}
+use Rattle.meaning.proofs.Lengths.{bool-cases, and-both, or-cases, and-false, or-true, if-all}
 
 -- a statement begins; `else` begins none
 abbrev pub active : ℕ → Bool
@@ -25,74 +27,70 @@ pub active-starts : (k : ℕ) → active k ≡ true → starts k ≡ true
 active-starts k a = and-both (starts k) (not (eqb k kElse)) a .0
 
 -- ---- the words that end a statement
-or-right : (a b : Bool) → b ≡ true → (a || b) ≡ true
-or-right true b e = refl
-or-right false b e = e
-
-or-left : (a b : Bool) → a ≡ true → (a || b) ≡ true
-or-left a b e = rw e
-
-brace-ends : (st : Seen) (k : ℕ) → eqb k kOpen ≡ true → (eqb (st .kw) kIf || eqb (st .kw) kElse) ≡ true → ends st k ≡ true
+pub starts-ends : (st : Seen) (k : ℕ) → starts k ≡ true → ends st k ≡ true
 unfolding ends
-brace-ends st k e f = or-right (starts k || eqb k kSemi) _ (rw (e, f))
+starts-ends st k e = rw e
 
 semi-ends : (st : Seen) (k : ℕ) → eqb k kSemi ≡ true → ends st k ≡ true
 unfolding ends
-semi-ends st k e = or-left (starts k || eqb k kSemi) _ (or-right (starts k) (eqb k kSemi) e)
+semi-ends st k e = rw e (simp or-true)
 
-pub starts-ends : (st : Seen) (k : ℕ) → starts k ≡ true → ends st k ≡ true
+brace-ends : (st : Seen) (k : ℕ) → eqb k kOpen ≡ true → (eqb (st .kw) kIf || eqb (st .kw) kElse) ≡ true → ends st k ≡ true
 unfolding ends
-starts-ends st k e = or-left (starts k || eqb k kSemi) _ (or-left (starts k) (eqb k kSemi) e)
+brace-ends st k e f = rw (e, f) (simp or-true)
 
 -- ---- a step
 compared-later : (k : ℕ) → 0 < compared k
 unfolding compared
-compared-later k = bool-cases (within kU1 kU2 k) (λ e. rw e (omega arith)) (λ e. rw e (bool-cases (within kR1 kR2 k) (λ e. rw e (omega arith)) (λ e. rw e (omega arith))))
+compared-later k =
+    bool-cases (within kU1 kU2 k) (λ e. rw e (omega arith))
+    (λ e. rw e (bool-cases (within kR1 kR2 k) (λ e. rw e (omega arith)) (λ e. rw e (omega arith))))
 
 behind-later : (st : Seen) → 0 < behind st
 unfolding behind
 behind-later st =
-    bool-cases (eqb (st .kw) kConstrain && eqb (st .pos) pSecond) (λ e. rw e (omega arith)) (λ e. rw e
-    (bool-cases (ltb (st .pos) pOver) (λ e. rw e (omega arith)) (λ e. rw e (let h : pOver ≤ st .pos = ltb-false (st .pos) pOver e in omega arith))))
+    bool-cases (eqb (st .kw) kConstrain && eqb (st .pos) pSecond) (λ e. rw e (omega arith))
+    (λ e. rw e (bool-cases (ltb (st .pos) pOver) (λ e. rw e (omega arith))
+    (λ e. rw e (let h : pOver ≤ st .pos = ltb-false (st .pos) pOver e in omega arith))))
 
--- what holds of both is what holds of either, where the test may be used
-pub if-all : {A : Type 0} (P : A → Type 0) (b : Bool) {x y : A} → (b ≡ true → P x) → (b ≡ false → P y) → P (if b then x else y)
-if-all P true p q = p refl
-if-all P false p q = q refl
-
-module _ (P : Seen → Type 0) (st : Seen) (k : ℕ) (gone : ends st k ≡ true → P outside)
-    (on : (p d : ℕ) → (p ≡ pFirst → ⊥) → P (moved st p d)) (still : (s : ℕ) (b : Bool) → P (record { kw = st .kw; pos = st .pos; sign = s; inside = b; depth = st .depth })) where
+module _ (P : Seen → Type 0) (st : Seen) (k : ℕ) (gone : ends st k ≡ true → P outside) (on : (p d : ℕ) → 0 < p → P (moved st p d))
+    (still : (s : ℕ) (b : Bool) → P (record { kw = st .kw; pos = st .pos; sign = s; inside = b; depth = st .depth })) where
   either : (b : Bool) {x y : Seen} → P x → P y → P (if b then x else y)
   either b p q = if-all P b (λ e. p) (λ e. q)
-
-  later : (p d : ℕ) → 0 < p → P (moved st p d)
-  later p d h = on p d (λ z. omega arith)
 
   e-cases : P (stepE st k)
   unfolding stepE
   e-cases =
       either (comparing st)
-      (either (eqb k kOpen) (still _ _) (either (isTerm k || eqb k kClose || (eqb k kName && not (st .inside))) (later pTest _ (omega arith)) (still _ _)))
-      (either (isTerm k) (later _ _ (compared-later k)) (either (eqb k kLparen) (later pTest _ (omega arith))
-      (either (eqb k kRparen) (either (eqb (st .depth) 0) (later pBehind _ (omega arith)) (later pTest _ (omega arith))) (still _ _))))
+      (either (eqb k kOpen) (still _ _)
+      (either (isTerm k || eqb k kClose || (eqb k kName && not (st .inside))) (on pTest _ (omega arith)) (still _ _)))
+      (either (isTerm k) (on _ _ (compared-later k)) (either (eqb k kLparen) (on pTest _ (omega arith))
+      (either (eqb k kRparen) (either (eqb (st .depth) 0) (on pBehind _ (omega arith)) (on pTest _ (omega arith))) (still _ _))))
 
   s-cases : P (stepS st k)
   unfolding stepS
   s-cases =
-      if-all P (eqb k kOpen) (λ e. if-all P (eqb (st .kw) kIf || eqb (st .kw) kElse) (λ f. gone (brace-ends st k e f)) (λ f. still _ _)) (λ e.
-      either (eqb k kClose) (later _ _ (behind-later st)) (either (eqb k kLparen && eqb (st .kw) kIf) (later pTest _ (omega arith))
-      (either (eqb k kColon) (later pClass _ (omega arith)) (either (eqb k kComma) (later pSecond _ (omega arith))
-      (either (eqb k kAlias || eqb k kInherits) (later pThird _ (omega arith)) (either (eqb k kMinus) (still _ _) (either (eqb k kTilde) (still _ _)
+      if-all P (eqb k kOpen)
+      (λ e. if-all P (eqb (st .kw) kIf || eqb (st .kw) kElse) (λ f. gone (brace-ends st k e f)) (λ f. still _ _))
+      (λ e. either (eqb k kClose) (on _ _ (behind-later st)) (either (eqb k kLparen && eqb (st .kw) kIf) (on pTest _ (omega arith))
+      (either (eqb k kColon) (on pClass _ (omega arith)) (either (eqb k kComma) (on pSecond _ (omega arith))
+      (either (eqb k kAlias || eqb k kInherits) (on pThird _ (omega arith))
+      (either (eqb k kMinus) (still _ _) (either (eqb k kTilde) (still _ _)
       (either (eqb k kName || eqb k kSelf || eqb k kStar)
-      (either (not (st .inside)) (later _ _ (behind-later st)) (either (eqb (st .sign) minus) (still _ _) (still _ _))) (still _ _)))))))))
+      (either (not (st .inside)) (on _ _ (behind-later st)) (either (eqb (st .sign) minus) (still _ _) (still _ _))) (still _ _)))))))))
 
   pub step-cases : starts k ≡ false → P (step st k)
   unfolding step
   step-cases h = rw (h, step) (after (eqb k kSemi) (inE st) (semi-ends st k)) where
-    after : (a b : Bool) → (a ≡ true → ends st k ≡ true) → P (elim a as (λ x. Seen) [ true ↦ outside | false ↦ elim b as (λ x. Seen) [ true ↦ stepE st k | false ↦ stepS st k ] ])
+    after : (a b : Bool) → (a ≡ true → ends st k ≡ true)
+        → P (elim a as (λ x. Seen) [ true ↦ outside | false ↦ elim b as (λ x. Seen) [ true ↦ stepE st k | false ↦ stepS st k ] ])
     after true b e = gone (e refl)
     after false true e = e-cases
     after false false e = s-cases
+
+  -- where the word ends nothing
+  step-on : ends st k ≡ false → P (step st k)
+  step-on e = bool-cases (starts k) (λ a. absurd (false≢true (sym e ∙ starts-ends st k a))) step-cases
 
 pub begin-step : (st : Seen) (k : ℕ) → starts k ≡ true → step st k ≡ begun k
 unfolding step
@@ -100,9 +98,7 @@ begin-step st k a = rw (a, step)
 
 -- ---- the keyword
 pub stays : (st : Seen) (k : ℕ) → ends st k ≡ false → step st k .kw ≡ st .kw
-stays st k e =
-    bool-cases (starts k) (λ a. absurd (false≢true (sym e ∙ starts-ends st k a)))
-    (step-cases (λ x. x .kw ≡ st .kw) st k (λ z. absurd (false≢true (sym e ∙ z))) (λ p d h. refl) (λ s b. refl))
+stays st k e = step-on (λ x. x .kw ≡ st .kw) st k (λ z. absurd (false≢true (sym e ∙ z))) (λ p d h. refl) (λ s b. refl) e
 
 -- behind `else`, as outside statements, nothing is said
 pub left-behind : (st : Seen) (k : ℕ) → starts k ≡ true → active k ≡ false → active (step st k .kw) ≡ false
@@ -113,11 +109,10 @@ keyword-kept st k h =
     bool-cases (starts k) (λ a. inr (left-behind st k a h))
     (step-cases (λ x. (x .kw ≡ st .kw) ⊎ (active (x .kw) ≡ false)) st k (λ z. inr refl) (λ p d n. inl refl) (λ s b. inl refl))
 
--- ---- the first position is not come back to
+-- ---- the first position is not come back to, and a name that stands there alone leaves it
 pub first-before : (st : Seen) (k : ℕ) → ends st k ≡ false → step st k .pos ≡ pFirst → st .pos ≡ pFirst
 first-before st k e =
-    bool-cases (starts k) (λ a. absurd (false≢true (sym e ∙ starts-ends st k a)))
-    (step-cases (λ x. x .pos ≡ pFirst → st .pos ≡ pFirst) st k (λ z. absurd (false≢true (sym e ∙ z))) (λ p d n h. absurd (n h)) (λ s b h. h))
+    step-on (λ x. x .pos ≡ pFirst → st .pos ≡ pFirst) st k (λ z. absurd (false≢true (sym e ∙ z))) (λ p d n h. absurd (omega arith)) (λ s b h. h) e
 
 pub first-left : (st : Seen) → st .pos ≡ pFirst → st .inside ≡ false → step st kName .pos ≡ pFirst → ⊥
 unfolding step stepS
@@ -133,11 +128,12 @@ say-cases P k e n s t y f =
     (λ e. or-cases (eqb k kName || eqb k kSelf) (eqb k kStar) e
     (λ e. or-cases (eqb k kName) (eqb k kSelf) e (is kName n) (is kSelf s)) (is kStar t)) (is kTrue y)) (is kFalse f) where
       is : (x : ℕ) → P x → eqb k x ≡ true → P k
-      is x p z = subst P (sym (eqb-true k x z)) p
+      is x p z = rw (eqb-true k x z) p
 
 pub ends-silent : (st : Seen) (k : ℕ) → ends st k ≡ true → saying k ≡ false
 unfolding ends
-ends-silent st k e = bool-cases (saying k) (λ s. absurd (false≢true (sym (say-cases (λ x. ends st x ≡ false) k s refl refl refl refl refl) ∙ e))) (λ s. s)
+ends-silent st k e =
+    bool-cases (saying k) (λ s. absurd (false≢true (sym (say-cases (λ x. ends st x ≡ false) k s refl refl refl refl refl) ∙ e))) (λ s. s)
 
 pub stop-silent : (st : Seen) (k : ℕ) → (starts k || eqb k kSemi) ≡ true → says st k ≡ false
 unfolding says ofE ends
@@ -158,10 +154,12 @@ unfolding formAt
 form-at st k =
     pick (eqb (st .kw) kClass)
     (λ c. pick (eqb (st .pos) pSecond && (eqb k kClass || eqb k kCommon)) (λ d. is kClass c) (λ d. perms (eqb-true (st .kw) kClass c)))
-    (λ c. pick (eqb (st .kw) kCommon || eqb (st .kw) kIf) (λ d. own) (λ d.
-    pick (not (eqb k kSemi)) (λ e. none) (λ e.
-    pick (eqb (st .kw) kRole) (λ f. pick (eqb (st .pos) pSecond) (λ g. is kRole f) (λ g. types (eqb-true (st .kw) kRole f))) (λ f.
-    pick (eqb (st .kw) kAllow && eqb (st .pos) pThird) (λ g. roles (eqb-true (st .kw) kAllow (and-both (eqb (st .kw) kAllow) (eqb (st .pos) pThird) g .0))) (λ g. own))))) where
+    (λ c. pick (eqb (st .kw) kCommon || eqb (st .kw) kIf) (λ d. own)
+    (λ d. pick (not (eqb k kSemi)) (λ e. none)
+    (λ e. pick (eqb (st .kw) kRole)
+    (λ f. pick (eqb (st .pos) pSecond) (λ g. is kRole f) (λ g. types (eqb-true (st .kw) kRole f)))
+    (λ f. pick (eqb (st .kw) kAllow && eqb (st .pos) pThird)
+    (λ g. roles (eqb-true (st .kw) kAllow (and-both (eqb (st .kw) kAllow) (eqb (st .pos) pThird) g .0))) (λ g. own))))) where
       pick : (b : Bool) {x y : ℕ} → (b ≡ true → Form (st .kw) x) → (b ≡ false → Form (st .kw) y) → Form (st .kw) (if b then x else y)
       pick b = if-all (Form (st .kw)) b
 
