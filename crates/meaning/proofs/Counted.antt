@@ -22,11 +22,15 @@ use Rattle.meaning.proofs.Steps.{active, active-starts, starts-ends, en
 use Rattle.meaning.proofs.Steps.{form-keyword}
 use Rattle.meaning.proofs.Passed.{Fine, Passed, done, begins, goes, tail-cases, form-of}
 
+abbrev pub limit : ℕ → ℕ
+limit j = getD limits j 0
+
 -- ---- what a word counts for
 -- in an expression no word counts by its position
 uncounted : (k p : ℕ) → pTest ≤ p → nameCount k p ≡ cNone
 unfolding nameCount
-uncounted k p h = rw (ne-eqb p pFirst (λ z. omega arith), ne-eqb p pThird (λ z. omega arith), ne-eqb p pClass (λ z. omega arith)) (simp and-false)
+uncounted k p h =
+    rw (ne-eqb p pFirst (λ z. omega arith), ne-eqb p pThird (λ z. omega arith), ne-eqb p pClass (λ z. omega arith)) (simp and-false)
 
 -- `if` ends no statement that counts
 abbrev Free : ℕ → Type 0
@@ -36,7 +40,8 @@ if-ends-none : (st : Seen) → Free (formAt st kIf)
 unfolding formAt
 if-ends-none st =
     if-all Free (eqb (st .kw) kClass)
-    (λ c. if-all Free (eqb (st .pos) pSecond && false) (λ d. absurd (false≢true (and-both (eqb (st .pos) pSecond) false d .1))) (λ d. unfold formCount in refl))
+    (λ c. if-all Free (eqb (st .pos) pSecond && false)
+    (λ d. absurd (false≢true (and-both (eqb (st .pos) pSecond) false d .1))) (λ d. unfold formCount in refl))
     (λ c. if-all Free (eqb (st .kw) kCommon || eqb (st .kw) kIf)
     (λ d. or-cases (eqb (st .kw) kCommon) (eqb (st .kw) kIf) d (is kCommon (unfold formCount in refl)) (is kIf (unfold formCount in refl)))
     (λ d. unfold formCount in refl)) where
@@ -47,7 +52,9 @@ says-uncounted : (st : Seen) (k : ℕ) → saying k ≡ false → says st k ≡ 
 unfolding says ofE
 says-uncounted st k y s =
     let o : (ofE st k || saying k) ≡ true = and-both (active (st .kw) && not (idle st)) (ofE st k || saying k) s .1 in
-    let i : inE st ≡ true = or-cases (ofE st k) (saying k) o (λ e. bool-cases (inE st) (λ z. z) (λ z. absurd (false≢true (rw z at e)))) (λ e. absurd (false≢true (sym y ∙ e))) in
+    let i : inE st ≡ true =
+        or-cases (ofE st k) (saying k) o (λ e. bool-cases (inE st) (λ z. z) (λ z. absurd (false≢true (rw z at e))))
+        (λ e. absurd (false≢true (sym y ∙ e))) in
     uncounted (st .kw) (st .pos) (leb-true pTest (st .pos) (and-both (leb pTest (st .pos)) (leb (st .pos) pTypes) i .0))
 
 -- a word counts for j where it says something that does, ends a statement that does, or is `if`: never two of the three
@@ -57,8 +64,10 @@ module _ (j : ℕ) (some : j < cNone) where
   nothing true x h = let e : x ≡ cNone = h refl in rw (ne-eqb x j (λ z. omega arith))
   nothing false x h = refl
 
-  pays-by : (y i e s : Bool) (n f : ℕ) → (e ≡ true → y ≡ false) → (i ≡ true → y ≡ false) → (y ≡ false → s ≡ true → n ≡ cNone) → (i ≡ true → f ≡ cNone)
-      → oneIf (s && eqb n j) + oneIf (e && eqb f j) + oneIf (i && eqb cIfs j) ≤ oneIf (eqb (if y then n else if i then cIfs else if e then f else cNone) j)
+  pays-by : (y i e s : Bool) (n f : ℕ) → (e ≡ true → y ≡ false) → (i ≡ true → y ≡ false)
+      → (y ≡ false → s ≡ true → n ≡ cNone) → (i ≡ true → f ≡ cNone)
+      → oneIf (s && eqb n j) + oneIf (e && eqb f j) + oneIf (i && eqb cIfs j)
+      ≤ oneIf (eqb (if y then n else if i then cIfs else if e then f else cNone) j)
   unfolding oneIf
   pays-by true true e s n f he hi hs hf = absurd (false≢true (sym (hi refl)))
   pays-by true false true s n f he hi hs hf = absurd (false≢true (sym (he refl)))
@@ -68,7 +77,8 @@ module _ (j : ℕ) (some : j < cNone) where
   pays-by false false false s n f he hi hs hf = let a = nothing s n (hs refl) in omega arith
 
   pays : (st : Seen) (k : ℕ)
-      → oneIf (says st k && eqb (nameCount (st .kw) (st .pos)) j) + oneIf (ends st k && eqb (formCount (formAt st k)) j) + oneIf (eqb k kIf && eqb cIfs j) ≤ oneIf (eqb (countOf st k) j)
+      → oneIf (says st k && eqb (nameCount (st .kw) (st .pos)) j) + oneIf (ends st k && eqb (formCount (formAt st k)) j)
+      + oneIf (eqb k kIf && eqb cIfs j) ≤ oneIf (eqb (countOf st k) j)
   unfolding countOf
   pays st k =
       pays-by (saying k) (eqb k kIf) (ends st k) (says st k) (nameCount (st .kw) (st .pos)) (formCount (formAt st k)) (ends-silent st k)
@@ -81,17 +91,18 @@ module _ (j : ℕ) (some : j < cNone) where
       bool-cases (eqb n j) (λ e. rw (e, eqb-true n j e) (getD-set-same l j (getD l j 0 + 1) 0 h))
       (λ e. rw (e, getD-set-other l n j (getD l n 0 + 1) 0 (λ z. eqb-false n j e (sym z))) (omega arith))
 
-  pub adds : (st : Seen) (w : Word) (c : Counts) → length (c .totals) ≡ 14 → Fine st w (counted st (w .kind) c)
-      → (getD (counted st (w .kind) c .totals) j 0 ≡ getD (c .totals) j 0 + oneIf (eqb (countOf st (w .kind)) j))
-      × (oneIf (eqb (countOf st (w .kind)) j) ≤ getD limits j 0 - getD (c .totals) j 0)
-  adds st w c l f =
-      let n : ℕ = countOf st (w .kind) in
-      let a : getD (counted st (w .kind) c .totals) j 0 ≡ getD (c .totals) j 0 + oneIf (eqb (countOf st (w .kind)) j) = unfold counted in one-more (c .totals) (countOf st (w .kind)) (omega arith) in (
-        a,
-        bool-cases (eqb (countOf st (w .kind)) j)
-            (λ e. let z : n ≡ j = eqb-true n j e in let t = (rw z at (f .total)) (lt-ltb j cNone some) in omega arith)
-            (λ e. rw e (unfold oneIf in omega arith)),
-      )
+  total-adds : (st : Seen) (k : ℕ) (c : Counts) → length (c .totals) ≡ 14
+      → getD (counted st k c .totals) j 0 ≡ getD (c .totals) j 0 + oneIf (eqb (countOf st k) j)
+  unfolding counted
+  total-adds st k c l = one-more (c .totals) (countOf st k) (omega arith)
+
+  total-fits : (st : Seen) (w : Word) (c : Counts) → length (c .totals) ≡ 14 → Fine st w (counted st (w .kind) c)
+      → oneIf (eqb (countOf st (w .kind)) j) ≤ limit j - getD (c .totals) j 0
+  total-fits st w c l f =
+      let a = total-adds st (w .kind) c l in
+      bool-cases (eqb (countOf st (w .kind)) j)
+      (λ e. let t = (rw (eqb-true (countOf st (w .kind)) j e) at (f .total)) (lt-ltb j cNone some) in omega arith)
+      (λ e. rw e (unfold oneIf in omega arith))
 
 -- ---- what a statement counts for: its items by their positions, and its form
 unfoldable pub counts : ℕ → ℕ → Item → Bool
@@ -118,28 +129,33 @@ module _ (j : ℕ) (some : j < cNone) where
       → length (keep (counts j (st .kw)) (r .items)) ≤ length (keep (counts j (step st k .kw)) (r .items))
   tail-le st k a p = tail-cases st k a p (λ e. rw e (omega arith)) (λ e. rw e (omega arith))
 
-  form-le : (e : Bool) (f g : ℕ) → oneIf (eqb (formCount (if e then f else g)) j) ≤ oneIf (e && eqb (formCount f) j) + oneIf (eqb (formCount g) j)
+  form-le : (e : Bool) (f g : ℕ)
+      → oneIf (eqb (formCount (if e then f else g)) j) ≤ oneIf (e && eqb (formCount f) j) + oneIf (eqb (formCount g) j)
   form-le true f g = omega arith
   form-le false f g = omega arith
 
   whole-le : {k f : ℕ} → Form k f → oneIf (eqb (wholeCount f) j) ≤ oneIf (eqb (formCount f) j) + oneIf (eqb k kIf && eqb cIfs j)
   unfolding wholeCount
-  whole-le {f = f} h = bool-cases (eqb f kIf) (λ e. rw (e, form-keyword h kIf refl (eqb-true f kIf e)) (omega arith)) (λ e. rw e (omega arith))
+  whole-le {f = f} h =
+      bool-cases (eqb f kIf) (λ e. rw (e, form-keyword h kIf refl (eqb-true f kIf e)) (omega arith)) (λ e. rw e (omega arith))
 
   shares : {st : Seen} {c : Counts} {g : Gathered} → Passed st c g → length (c .totals) ≡ 14
-      → length (keep (counts j (st .kw)) (g .items)) + oneIf (eqb (formCount (g .form)) j) + sum (share j) (g .rest) ≤ getD limits j 0 - getD (c .totals) j 0
+      → length (keep (counts j (st .kw)) (g .items)) + oneIf (eqb (formCount (g .form)) j) + sum (share j) (g .rest)
+      ≤ limit j - getD (c .totals) j 0
   unfolding sum share counts itemOf
-  shares done l = let n = nothing j some true (formCount 0) (λ z. unfold formCount in refl) in omega arith
+  shares done l = let z = nothing j some true (formCount 0) (λ z. unfold formCount in refl) in omega arith
   shares {st} {c} (begins {r = r} w b a f p) l =
       let ih = shares p (unfold counted in simp length-set l) in
-      let m = adds j some st w c l f in
+      let m = total-adds j some st (w .kind) c l in
+      let n = total-fits j some st w c l f in
       let y = rw (starts-ends st (w .kind) (active-starts (w .kind) a)) at (pays j some st (w .kind)) in
       let x = keep-le (counts j (r .form)) (counts j (w .kind)) (form-counts (form-of p)) (r .items) in
       let z = whole-le (form-of p) in
       omega arith
   shares {st} {c} (goes {r = r} w a f p) l =
       let ih = shares p (unfold counted in simp length-set l) in
-      let m = adds j some st w c l f in
+      let m = total-adds j some st (w .kind) c l in
+      let n = total-fits j some st w c l f in
       let y = pays j some st (w .kind) in
       let t = tail-le st (w .kind) a p in
       let x = keep-if (counts j (st .kw)) (says st (w .kind)) (itemOf st w) (r .items) in
@@ -147,5 +163,5 @@ module _ (j : ℕ) (some : j < cNone) where
       omega arith
 
   -- in a text that fits the statements' shares come to no more than the limit
-  pub shares-within : {g : Gathered} → Passed outside noCounts g → sum (share j) (g .rest) ≤ getD limits j 0
+  pub shares-within : {g : Gathered} → Passed outside noCounts g → sum (share j) (g .rest) ≤ limit j
   shares-within p = let h = shares p (unfold noCounts in refl) in omega arith

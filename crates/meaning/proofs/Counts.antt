@@ -27,12 +27,12 @@ use Rattle.meaning.specs.Keywords.{kUser, kConstrain, kRoleAllow, isAv, 
 use Rattle.meaning.proofs.Lengths.{and-both, or-cases, and-false, oneIf, All, all-of, all-keep, all-each, length-each}
 use Rattle.meaning.proofs.Lengths.{keep-two, joined-each}
 use Rattle.meaning.proofs.Passed.{Passed, text-passed}
-use Rattle.meaning.proofs.Counted.{wholeCount}
+use Rattle.meaning.proofs.Counted.{limit, wholeCount}
 use Rattle.meaning.proofs.Own.{few-words, test-words, few-common, few-own, few-beside, short-names}
 use Rattle.meaning.proofs.Kept.{postfix-le, tests-le}
 use Rattle.meaning.proofs.Held.{few-perms, Fits, kind-fit, types-fit, roles-fit, aliases-fit, users-fit, bools-fit}
 use Rattle.meaning.proofs.Held.{classes-fit}
-use Rattle.meaning.proofs.Limits.{limit, at-within, forms-within, names-within, single-within, kept-within, names-le, home}
+use Rattle.meaning.proofs.Limits.{at-within, forms-within, names-within, single-within, kept-within, names-le, home}
 use Rattle.meaning.proofs.Limits.{single}
 
 abbrev pub policyIn : List Statement → Policy

@@ -12,7 +12,7 @@ use Rattle.meaning.specs.Plain.{if_then_else_, within, keep, joined}
 use Rattle.meaning.specs.Words.{Word}
 use Rattle.meaning.specs.Statements.{Seen, outside, step, ofE, Item, Statement, saying, idle, says, itemOf, ends, Gathered}
 use Rattle.meaning.specs.Statements.{part, namesAt, pFirst, pSecond, pThird, pFourth}
-use Rattle.meaning.specs.Sizes.{limits, nameCount, Counts, noCounts, cNone}
+use Rattle.meaning.specs.Sizes.{nameCount, Counts, noCounts, cNone}
 use Rattle.meaning.specs.Keywords.{starts, kName, kOpen, kSemi, kClass, kCommon, kAttribute, kType, kTypealias, kBool}
 use Rattle.meaning.specs.Keywords.{kRole, kIf, kElse, kUser, kPerms}
 use Rattle.meaning.specs.Names.{Decl, declaresAt, declares, declOf, objectR, declaredBy, declared, dType, dBool, dRole}
@@ -21,7 +21,7 @@ use Rattle.meaning.proofs.Lengths.{keep-if, keep-le, keep-sum, joined-s
 use Rattle.meaning.proofs.Lengths.{joined-keep}
 use Rattle.meaning.proofs.Steps.{active, left-behind, stays, first-before, first-left, stop-silent, form-keyword}
 use Rattle.meaning.proofs.Passed.{Passed, done, begins, goes, nothing-said, form-of, statements-all}
-use Rattle.meaning.proofs.Counted.{counts, wholeCount, share, shares-within}
+use Rattle.meaning.proofs.Counted.{limit, counts, wholeCount, share, shares-within}
 
 -- ---- one name a statement, in `class` and `role`
 unfoldable pub single : ℕ → Bool
@@ -75,10 +75,7 @@ unfolding namesAt oneIf
 all-single p =
     statements-all _ (λ k q b c r a z p h. one-name p (rw (form-keyword (form-of p) (r .form) (single-cases (λ x. starts x ≡ true) (r .form) h refl refl) refl) h)) p
 
--- ---- the limit of what is counted
-abbrev pub limit : ℕ → ℕ
-limit j = getD limits j 0
-
+-- ---- items and statements by form
 -- a statement's items at a position that counts for j
 part-le : (j q : ℕ) (s : Statement) → nameCount (s .form) q ≡ j → length (part q s) ≤ length (keep (counts j (s .form)) (s .items))
 unfolding part counts
