@@ -33,7 +33,7 @@ use Rattle.meaning.proofs.Kept.{postfix-le, tests-le}
 use Rattle.meaning.proofs.Held.{few-perms, Fits, kind-fit, types-fit, roles-fit, aliases-fit, users-fit, bools-fit}
 use Rattle.meaning.proofs.Held.{classes-fit}
 use Rattle.meaning.proofs.Limits.{at-within, forms-within, names-within, single-within, kept-within, names-le, home}
-use Rattle.meaning.proofs.Limits.{single}
+use Rattle.meaning.proofs.Single.{single}
 
 abbrev pub policyIn : List Statement → Policy
 policyIn ss = policyOf (namesOf ss) ss

@@ -3,6 +3,7 @@ pub mod Lengths
 pub mod Steps
 pub mod Passed
 pub mod Counted
+pub mod Single
 pub mod Limits
 pub mod Own
 pub mod Kept
