@@ -21,7 +21,7 @@ use Rattle.meaning.specs.Rules.{Bound, typeEntries, rolesIn, roleOf, obj
 use Rattle.meaning.specs.Keywords.{bytes, kName, kCommon, kType, kTypealias, kPerms}
 use Rattle.meaning.proofs.Lengths.{bool-cases, if-all, and-both, All, empty, more, all-map, all-both, all-keep, all-each}
 use Rattle.meaning.proofs.Lengths.{all-append, all-joined}
-use Rattle.meaning.proofs.Own.{Short}
+use Rattle.meaning.proofs.Own.{Few, Short}
 
 -- ---- the first of some lists
 first-all : (P : List Item → Type 0) {ls : List (List Item)} → P [] → All P ls → P (firstOf ls)
@@ -36,7 +36,9 @@ module _ (ss : List Statement) (C B P : List Item → Type 0) (none : C []) (bar
     (beside : All (λ s. s .form ≡ kPerms → B (namesAt pFourth s)) ss) where
   common-hold : (x : List ℕ) → C (commonPerms x ss)
   unfolding commonPerms isCommon
-  common-hold x = first-all C none (all-each (namesAt pSecond) (all-keep (isCommon x) (λ s e h. h (eqb-true (s .form) kCommon (and-both (eqb (s .form) kCommon) _ e .0))) common))
+  common-hold x =
+      first-all C none (all-each (namesAt pSecond) (all-keep (isCommon x)
+      (λ s e h. h (eqb-true (s .form) kCommon (and-both (eqb (s .form) kCommon) _ e .0))) common))
 
   inherited-hold : (s : Statement) → C (inherited ss s)
   unfolding inherited
@@ -44,15 +46,17 @@ module _ (ss : List Statement) (C B P : List Item → Type 0) (none : C []) (bar
 
   perms-hold : (x : List ℕ) → P (permsOf ss x)
   unfolding permsOf isPermsOf statedPerms
-  perms-hold x = first-all P bare (all-each (statedPerms ss) (all-keep (isPermsOf x) (λ s e h.
+  perms-hold x =
+      first-all P bare (all-each (statedPerms ss) (all-keep (isPermsOf x) (λ s e h.
       let f : s .form ≡ kPerms = eqb-true (s .form) kPerms (and-both (eqb (s .form) kPerms) _ e .0) in
-      if-all P (any (λ i. eqb (i .pos) pThird) (s .items)) (λ y. join (inherited ss s) (namesAt pFourth s) (inherited-hold s) (h .1 f)) (λ y. h .0 f)) (all-both ss own beside)))
+      if-all P (any (λ i. eqb (i .pos) pThird) (s .items))
+      (λ y. join (inherited ss s) (namesAt pFourth s) (inherited-hold s) (h .1 f)) (λ y. h .0 f)) (all-both ss own beside)))
 
-pub few-perms : (ss : List Statement) → All (λ s. s .form ≡ kCommon → length (namesAt pSecond s) ≤ commonPermissions) ss
-    → All (λ s. s .form ≡ kPerms → length (namesAt pSecond s) ≤ ownPermissions) ss → All (λ s. s .form ≡ kPerms → length (namesAt pFourth s) ≤ ownBesideCommon) ss
-    → (x : List ℕ) → length (permsOf ss x) ≤ ownPermissions
-few-perms ss = perms-hold ss (λ l. length l ≤ commonPermissions) (λ l. length l ≤ ownBesideCommon) (λ l. length l ≤ ownPermissions) (omega arith) (omega arith)
-    (λ x y h k. omega (arith, length-append x y))
+pub few-perms : (ss : List Statement) → Few kCommon pSecond commonPermissions ss → Few kPerms pSecond ownPermissions ss
+    → Few kPerms pFourth ownBesideCommon ss → (x : List ℕ) → length (permsOf ss x) ≤ ownPermissions
+few-perms ss =
+    perms-hold ss (λ l. length l ≤ commonPermissions) (λ l. length l ≤ ownBesideCommon) (λ l. length l ≤ ownPermissions)
+    (omega arith) (omega arith) (λ x y h k. omega (arith, length-append x y))
 
 -- ---- names
 abbrev pub Fits : List ℕ → Type 0
@@ -63,22 +67,26 @@ module _ (ss : List Statement) (short : All (λ s. All Short (s .items)) ss) whe
   unfolding namesAt
   names-fit q = all-map (λ s. all-keep _ (λ i e h. h (and-both (eqb (i .pos) q) (eqb (i .kind) kName) e .1))) short
 
-  pub perms-fit : (x : List ℕ) → All (λ i. Fits (i .text)) (permsOf ss x)
+  perms-fit : (x : List ℕ) → All (λ i. Fits (i .text)) (permsOf ss x)
   perms-fit =
       let F : List Item → Type 0 = All (λ i. Fits (i .text)) in
-      perms-hold ss F F F empty empty (λ x y h k. all-append h k) (all-map (λ s h e. h) (names-fit pSecond)) (all-map (λ s h e. h) (names-fit pSecond)) (all-map (λ s h e. h) (names-fit pFourth))
+      let at : (q f : ℕ) → All (λ s. s .form ≡ f → All (λ i. Fits (i .text)) (namesAt q s)) ss = λ q f. all-map (λ s h e. h) (names-fit q) in
+      perms-hold ss F F F empty empty (λ x y h k. all-append h k) (at pSecond kCommon) (at pSecond kPerms) (at pFourth kPerms)
 
   declared-fit : All (λ d. Fits (d .text)) (declared ss)
   unfolding declared objectR bytes declaredBy declOf declares
-  declared-fit = more {x = objectR} (omega arith) (all-joined declaredBy (all-map (λ s h. all-each (declOf s) (all-keep _ (λ i e f. f (is-name s i e)) h)) short)) where
-    is-name : (s : Statement) (i : Item) → within dType dBool (declares s i) ≡ true → eqb (i .kind) kName ≡ true
-    is-name s i = bool-cases (eqb (i .kind) kName) (λ n h. n) (λ n. rw n (λ h. absurd (false≢true h)))
+  declared-fit =
+      more {x = objectR} (omega arith) (all-joined declaredBy
+      (all-map (λ s h. all-each (declOf s) (all-keep _ (λ i e f. f (is-name s i e)) h)) short)) where
+        is-name : (s : Statement) (i : Item) → within dType dBool (declares s i) ≡ true → eqb (i .kind) kName ≡ true
+        is-name s i = bool-cases (eqb (i .kind) kName) (λ n h. n) (λ n. rw n (λ h. absurd (false≢true h)))
 
   pub kind-fit : (d : ℕ) → All (λ x. Fits (x .text)) (ofKind d (declared ss))
   unfolding ofKind nameOf
   kind-fit d = all-each nameOf (all-keep _ (λ x e h. h) declared-fit)
 
-  pub types-fit : (n : Names) (bs : List Bound) (is : List Item) (i : ℕ) (ns : List Name) → All (λ x. Fits (x .text)) ns → All (λ t. Fits (t .name .text)) (typeEntries n bs is i ns)
+  pub types-fit : (n : Names) (bs : List Bound) (is : List Item) (i : ℕ) (ns : List Name) → All (λ x. Fits (x .text)) ns
+      → All (λ t. Fits (t .name .text)) (typeEntries n bs is i ns)
   unfolding typeEntries
   types-fit n bs is i [] h = empty
   types-fit n bs is i (x ∷ ns) (more h r) = more h (types-fit n bs is (i + 1) ns r)
@@ -90,7 +98,9 @@ module _ (ss : List Statement) (short : All (λ s. All Short (s .items)) ss) whe
 
   pub aliases-fit : All (λ a. Fits (a .name .text)) (joined aliasesBy ss)
   unfolding aliasesBy itemName
-  aliases-fit = all-joined aliasesBy (all-map (λ s h. if-all (All (λ a. Fits (a .name .text))) (eqb (s .form) kType || eqb (s .form) kTypealias) (λ e. all-each _ h) (λ e. empty)) (names-fit pThird))
+  aliases-fit =
+      all-joined aliasesBy (all-map (λ s h. if-all (All (λ a. Fits (a .name .text))) (eqb (s .form) kType || eqb (s .form) kTypealias)
+      (λ e. all-each _ h) (λ e. empty)) (names-fit pThird))
 
   pub users-fit : (n : Names) (k : ℕ) → All (λ u. Fits (u .name .text)) (joined (userOf n) (ofForm k ss))
   unfolding userOf ofForm itemName

@@ -100,7 +100,8 @@ length-each f [] = refl
 length-each f (x ∷ l) = ap suc (length-each f l)
 
 -- one more is kept, where the tests hold of it
-pub keep-if : {A : Type 0} (p : A → Bool) (b : Bool) (x : A) (l : List A) → length (keep p (if b then x ∷ l else l)) ≡ oneIf (b && p x) + length (keep p l)
+pub keep-if : {A : Type 0} (p : A → Bool) (b : Bool) (x : A) (l : List A)
+    → length (keep p (if b then x ∷ l else l)) ≡ oneIf (b && p x) + length (keep p l)
 unfolding oneIf
 keep-if p true x l = bool-cases (p x) (λ e. rw e (omega arith)) (λ e. rw e (omega arith))
 keep-if p false x l = omega arith
@@ -130,15 +131,22 @@ keep-each p f (x ∷ l) = bool-cases (p (f x)) (λ e. rw e (ap suc (keep-each p 
 
 pub keep-keep : {A : Type 0} (p q : A → Bool) (l : List A) → length (keep p (keep q l)) ≤ length (keep p l)
 keep-keep p q [] = omega arith
-keep-keep p q (x ∷ l) = let r = keep-keep p q l in bool-cases (q x) (λ e. rw e (omega (arith, keep-if p true x l, keep-if p true x (keep q l)))) (λ e. rw e (omega (arith, keep-if p true x l)))
+keep-keep p q (x ∷ l) =
+    let r = keep-keep p q l in
+    let a = keep-if p true x l in
+    bool-cases (q x) (λ e. rw e (omega (arith, keep-if p true x (keep q l)))) (λ e. rw e (omega arith))
 
 keep-append : {A : Type 0} (p : A → Bool) (s t : List A) → length (keep p (s ++ t)) ≡ length (keep p s) + length (keep p t)
 keep-append p [] t = omega arith
 keep-append p (x ∷ s) t = let r = keep-append p s t in omega (arith, keep-if p true x s, keep-if p true x (s ++ t))
 
-pub keep-joined : {A B C : Type 0} (p : B → Bool) (f : A → List B) (g : A → List C) → ((x : A) → length (keep p (f x)) ≤ length (g x)) → (l : List A) → length (keep p (joined f l)) ≤ length (joined g l)
+pub keep-joined : {A B C : Type 0} (p : B → Bool) (f : A → List B) (g : A → List C) → ((x : A) → length (keep p (f x)) ≤ length (g x))
+    → (l : List A) → length (keep p (joined f l)) ≤ length (joined g l)
 keep-joined p f g h [] = omega arith
-keep-joined p f g h (x ∷ l) = let r = keep-joined p f g h l in let a = h x in omega (arith, keep-append p (f x) (joined f l), length-append (g x) (joined g l))
+keep-joined p f g h (x ∷ l) =
+    let r = keep-joined p f g h l in
+    let a = h x in
+    omega (arith, keep-append p (f x) (joined f l), length-append (g x) (joined g l))
 
 pub joined-keep : {A B : Type 0} (f : A → List B) (p : A → Bool) (l : List A) → joined f (keep p l) ≡ joined (λ x. if p x then f x else []) l
 joined-keep f p [] = refl

@@ -3,6 +3,7 @@
 -- (`own-left`); a statement begins at 0. Names of 63 bytes at most are seen word by word.
 -- Assumes nothing.
 use mathlib.Core.Path.{_≡_, refl}
+use mathlib.Core.List.{List}
 use mathlib.Core.Bool.{Bool, true, false, not, _&&_, _||_, false≢true}
 use Prim.Native.Nat.{ℕ, _+_, _-_, _≤_, _<_}
 use native.Mathlib.Omega.{arith}
@@ -24,7 +25,8 @@ use Rattle.meaning.proofs.Steps.{roles, form-keyword}
 use Rattle.meaning.proofs.Passed.{Fine, Passed, done, begins, goes, nothing-said, tail-cases, form-of, statements-all}
 
 -- a word that counts adds one, and that stays within its limit
-own-adds : (st : Seen) (w : Word) (c : Counts) (m : ℕ) (b : Bool) → 0 < m → (b ≡ true → ownLimit st (w .kind) ≡ m) → starts (w .kind) ≡ false → Fine st w (counted st (w .kind) c)
+own-adds : (st : Seen) (w : Word) (c : Counts) (m : ℕ) (b : Bool) → 0 < m → (b ≡ true → ownLimit st (w .kind) ≡ m)
+    → starts (w .kind) ≡ false → Fine st w (counted st (w .kind) c)
     → (c .own + oneIf b ≤ counted st (w .kind) c .own) × (oneIf b ≤ m - c .own)
 unfolding counted oneIf
 own-adds st w c m true s h z f =
@@ -33,7 +35,8 @@ own-adds st w c m true s h z f =
     let t = f .own (lt-ltb 0 (ownLimit st (w .kind)) (omega arith)) in
     (omega arith, omega arith)
 own-adds st w c m false s h z f =
-    let a : c .own ≤ counted st (w .kind) c .own = rw z (bool-cases (eqb (ownLimit st (w .kind)) 0) (λ e. rw e (omega arith)) (λ e. rw e (omega arith))) in
+    let a : c .own ≤ counted st (w .kind) c .own =
+        rw z (bool-cases (eqb (ownLimit st (w .kind)) 0) (λ e. rw e (omega arith)) (λ e. rw e (omega arith))) in
     (omega arith, omega arith)
 
 module _ (K : ℕ → Bool) (q : Item → Bool) (m : ℕ) (some : 0 < m)
@@ -46,24 +49,29 @@ module _ (K : ℕ → Bool) (q : Item → Bool) (m : ℕ) (some : 0 < m)
       bool-cases (starts (w .kind))
       (λ z. rw (stop-silent st (w .kind) (rw z), nothing-said p (left-behind st (w .kind) z a)) (omega arith))
       (λ z.
-      let t : length (keep q (r .items)) ≤ m - counted st (w .kind) c .own = tail-cases st (w .kind) a p (λ e. own-left p (rw e h)) (λ e. rw e (omega arith)) in
+      let t : length (keep q (r .items)) ≤ m - counted st (w .kind) c .own =
+          tail-cases st (w .kind) a p (λ e. own-left p (rw e h)) (λ e. rw e (omega arith)) in
       let o = own-adds st w c m (says st (w .kind) && q (itemOf st w)) some
-      (λ y. let s = and-both (says st (w .kind)) (q (itemOf st w)) y in limit st w (s .0) h (s .1)) z f in
+          (λ y. let s = and-both (says st (w .kind)) (q (itemOf st w)) y in limit st w (s .0) h (s .1)) z f in
       omega arith)
 
   own-few : {g : Gathered} (F : ℕ → Bool) → ((k f : ℕ) → Form k f → starts k ≡ true → F f ≡ true → K k ≡ true)
       → Passed outside noCounts g → All (λ s. F (s .form) ≡ true → length (keep q (s .items)) ≤ m) (g .rest)
-  own-few F f p = statements-all _ (λ k at b c r a z p h. let t = own-left p (f k (r .form) (form-of p) (active-starts k a) h) in omega arith) p
+  own-few F f p =
+      statements-all _ (λ k at b c r a z p h. let t = own-left p (f k (r .form) (form-of p) (active-starts k a) h) in omega arith) p
 
 -- ---- the words of an expression
 in-expression : (st : Seen) (k : ℕ) → inE st ≡ true → saying k ≡ true → ofE st k ≡ true
 unfolding ofE
-in-expression st k i y = say-cases (λ x. ofE st x ≡ true) k y (rw i (simp and-false)) (rw i (simp and-false)) (rw i (simp and-false)) (rw i (simp and-false)) (rw i (simp and-false))
+in-expression st k i y =
+    say-cases (λ x. ofE st x ≡ true) k y (rw i (simp and-false)) (rw i (simp and-false)) (rw i (simp and-false)) (rw i (simp and-false))
+    (rw i (simp and-false))
 
 expression-limit : (st : Seen) (k : ℕ) → says st k ≡ true → inE st ≡ true → ownLimit st k ≡ expressionWords
 unfolding says ownLimit
 expression-limit st k s i =
-    let o : ofE st k ≡ true = or-cases (ofE st k) (saying k) (and-both (active (st .kw) && not (idle st)) (ofE st k || saying k) s .1) (λ z. z) (in-expression st k i) in
+    let a = and-both (active (st .kw) && not (idle st)) (ofE st k || saying k) s .1 in
+    let o : ofE st k ≡ true = or-cases (ofE st k) (saying k) a (λ z. z) (in-expression st k i) in
     rw o
 
 pub few-words : {g : Gathered} → Passed outside noCounts g → All (λ s. length (constraintWords s) ≤ expressionWords) (g .rest)
@@ -78,8 +86,13 @@ unfolding part constraintWords
 test-words s = keep-le (λ (i : Item). eqb (i .pos) pTest) (λ i. within pTest pTypes (i .pos)) (λ i e. rw (eqb-true (i .pos) pTest e)) (s .items)
 
 -- ---- permissions
-module _ (k q m : ℕ) (some : 0 < m) (limit : (st : Seen) → st .kw ≡ k → st .pos ≡ q → ownLimit st kName ≡ m) (f : ℕ) (keyword : (x : ℕ) → Form x f → starts x ≡ true → x ≡ k) where
-  few-names : {g : Gathered} → Passed outside noCounts g → All (λ s. s .form ≡ f → length (namesAt q s) ≤ m) (g .rest)
+-- at most m names at the position q of each statement of the form f
+abbrev pub Few : ℕ → ℕ → ℕ → List Statement → Type 0
+Few f q m ss = All (λ s. s .form ≡ f → length (namesAt q s) ≤ m) ss
+
+module _ (k q m : ℕ) (some : 0 < m) (limit : (st : Seen) → st .kw ≡ k → st .pos ≡ q → ownLimit st kName ≡ m)
+    (f : ℕ) (keyword : (x : ℕ) → Form x f → starts x ≡ true → x ≡ k) where
+  few-names : {g : Gathered} → Passed outside noCounts g → Few f q m (g .rest)
   unfolding namesAt itemOf
   few-names p =
       all-map (λ s h e. h (eq-eqb (s .form) f e)) (own-few (λ x. eqb x k) (λ i. eqb (i .pos) q && eqb (i .kind) kName) m some
@@ -94,15 +107,15 @@ class-perms (perms h) e s = h
 class-perms (types h) e s = absurd (omega arith)
 class-perms (roles h) e s = absurd (omega arith)
 
-pub few-common : {g : Gathered} → Passed outside noCounts g → All (λ s. s .form ≡ kCommon → length (namesAt pSecond s) ≤ commonPermissions) (g .rest)
+pub few-common : {g : Gathered} → Passed outside noCounts g → Few kCommon pSecond commonPermissions (g .rest)
 unfolding ownLimit ofE
 few-common = few-names kCommon pSecond commonPermissions (omega arith) (λ st a b. rw (a, b)) kCommon (λ x o a. form-keyword o kCommon refl refl)
 
-pub few-own : {g : Gathered} → Passed outside noCounts g → All (λ s. s .form ≡ kPerms → length (namesAt pSecond s) ≤ ownPermissions) (g .rest)
+pub few-own : {g : Gathered} → Passed outside noCounts g → Few kPerms pSecond ownPermissions (g .rest)
 unfolding ownLimit ofE
 few-own = few-names kClass pSecond ownPermissions (omega arith) (λ st a b. rw (a, b)) kPerms (λ x o a. class-perms o refl a)
 
-pub few-beside : {g : Gathered} → Passed outside noCounts g → All (λ s. s .form ≡ kPerms → length (namesAt pFourth s) ≤ ownBesideCommon) (g .rest)
+pub few-beside : {g : Gathered} → Passed outside noCounts g → Few kPerms pFourth ownBesideCommon (g .rest)
 unfolding ownLimit ofE
 few-beside = few-names kClass pFourth ownBesideCommon (omega arith) (λ st a b. rw (a, b)) kPerms (λ x o a. class-perms o refl a)
 
