@@ -1,4 +1,8 @@
--- x
+-- An accepted text is within the sizes of 01 (`within`): every list of its names and its policy, the words of every expression and
+-- what is kept of them, the bytes of every name. Nothing of the grammar is used: a statement's form comes from the reading at the
+-- word that ends it, so that what is counted and what is declared is one condition. Each size is a line: the list is made of items at
+-- a position that counts, or of statements of a form that does (Limits), or is bounded statement by statement (Own, Held, Kept).
+-- The numbers are those of `limits`; roles are one more, with `object_r`.
 -- Assumes nothing.
 use mathlib.Core.Path.{_≡_, refl, sym, ap, _∙_}
 use mathlib.Core.Bool.{Bool, true, false, _||_, false≢true}
@@ -59,7 +63,9 @@ pub record Within (ss : List Statement) : Type 0 where
   pub ifCodes : All (λ c. length c ≤ expressionWords) (policyIn ss .ifs)
   pub constrainWords : All (λ s. length (constraintWords s) ≤ expressionWords) (ofForm kConstrain ss)
   pub constrainCodes : All (λ c. length (c .test) ≤ expressionWords) (policyIn ss .constrains)
-  -- the names as the names' lists have them, for the numbers and sets that are counted through them
+  -- the lists that numbers and sets are counted through
+  pub typeNames : length (namesOf ss .types) ≤ limit cTypes
+  pub roleNames : length (namesOf ss .roles) ≤ limit cRoles + 1
   pub userNames : length (namesOf ss .users) ≤ limit cUsers
   pub boolNames : length (namesOf ss .bools) ≤ limit cBools
   -- the bytes of names
@@ -71,6 +77,7 @@ pub record Within (ss : List Statement) : Type 0 where
   pub userBytes : All (λ u. Fits (u .name .text)) (policyIn ss .users)
   pub boolBytes : All (λ b. Fits (b .name .text)) (policyIn ss .bools)
 
+-- ---- lists as long as others
 entries-long : (n : Names) (bs : List Bound) (is : List Item) (i : ℕ) (ns : List Name) → length (typeEntries n bs is i ns) ≡ length ns
 unfolding typeEntries
 entries-long n bs is i [] = refl
@@ -82,7 +89,8 @@ roles-long n ss [] = refl
 roles-long n ss (x ∷ ns) = ap suc (length-each (roleOf n ss) ns)
 
 -- a rule has a row for each class word
-class-words : (K : ℕ → Bool) → K kConstrain ≡ false → (n : Names) (s : Statement) → K (s .form) ≡ true → length (classNumbers n s) ≡ length (part pClass s)
+class-words : (K : ℕ → Bool) → K kConstrain ≡ false → (n : Names) (s : Statement) → K (s .form) ≡ true
+    → length (classNumbers n s) ≡ length (part pClass s)
 unfolding classNumbers classPart
 class-words K c n s h = rw (length-each, ne-eqb (s .form) kConstrain (λ z. false≢true (sym c ∙ (rw z at h))))
 
@@ -92,19 +100,30 @@ type-rows k e =
     let h : k ≤ kTypeMember = leb-true k kTypeMember (and-both (leb kTypeTransition k) (leb k kTypeMember) e .1) in
     simp (and-false, e, lt-leb kAllow k (omega arith))
 
-module _ {g : Gathered} (p : Passed outside noCounts g) where
-  role-rules : length (ofForm kRoleAllow (g .rest)) + length (ofForm kRoleTransition (g .rest)) ≤ limit cRoleRules
-  unfolding ofForm wholeCount formCount
-  role-rules =
-      let a = keep-two {A = Statement} (λ s. eqb (s .form) kRoleAllow) (λ s. eqb (s .form) kRoleTransition) (λ s. eqb (s .form) kRoleAllow || eqb (s .form) kRoleTransition)
-      (λ s e. rw e) (λ s e. rw (eqb-true (s .form) kRoleTransition e)) (λ s e. rw (eqb-true (s .form) kRoleAllow e)) (g .rest) in
-      let b = forms-within p cRoleRules (omega arith) (λ k. eqb k kRoleAllow || eqb k kRoleTransition)
-      (λ k e. or-cases (eqb k kRoleAllow) (eqb k kRoleTransition) e (λ z. rw (eqb-true k kRoleAllow z)) (λ z. rw (eqb-true k kRoleTransition z))) in
-      omega arith
+role-rules : {g : Gathered} → Passed outside noCounts g
+    → length (ofForm kRoleAllow (g .rest)) + length (ofForm kRoleTransition (g .rest)) ≤ limit cRoleRules
+unfolding ofForm wholeCount formCount
+role-rules {g} p =
+    let a = keep-two {A = Statement} (λ s. eqb (s .form) kRoleAllow) (λ s. eqb (s .form) kRoleTransition)
+        (λ s. eqb (s .form) kRoleAllow || eqb (s .form) kRoleTransition)
+        (λ s e. rw e) (λ s e. rw (eqb-true (s .form) kRoleTransition e)) (λ s e. rw (eqb-true (s .form) kRoleAllow e)) (g .rest) in
+    let b = forms-within p cRoleRules (omega arith) (λ k. eqb k kRoleAllow || eqb k kRoleTransition)
+        (λ k e. or-cases (eqb k kRoleAllow) (eqb k kRoleTransition) e
+        (λ z. rw (eqb-true k kRoleAllow z)) (λ z. rw (eqb-true k kRoleTransition z))) in
+    omega arith
+
+if-code : (n : Names) (s : Statement) → length (ifOf n s) ≤ length (constraintWords s)
+unfolding ifOf
+if-code n s = omega (arith, test-words s, length-each (boolToken n) (part pTest s), postfix-le [] (each (boolToken n) (part pTest s)))
+
+constrain-code : (n : Names) (s : Statement) → length (constrainOf n s .test) ≤ length (constraintWords s)
+unfolding constrainOf
+constrain-code n s = omega (arith, postfix-le [] (readTests n (constraintWords s) .tokens), tests-le n (constraintWords s))
 
 -- ---- the whole
 counts-within : {g : Gathered} → Passed outside noCounts g → Within (g .rest)
-unfolding policyOf namesOf ofKind home nameCount oneIf classesIn classOf typesIn single formCount wholeCount ofForm userOf switchOf aliasesBy aliasEntry rulesOf avStatements rowsOf ruleOf typeRowsOf attributeOf ifOf constrainOf
+unfolding policyOf namesOf ofKind ofForm home single nameCount formCount wholeCount oneIf classesIn classOf typesIn attributeOf aliasesBy aliasEntry
+    userOf switchOf rulesOf avStatements rowsOf ruleOf typeRowsOf
 counts-within {g} p =
     let ss = g .rest in
     let n = namesOf (g .rest) in
@@ -112,25 +131,34 @@ counts-within {g} p =
     let words = few-words p in
     record {
       types = rw (entries-long, length-each nameOf) (names-within p dType cTypes refl (omega arith) refl (omega arith));
-      attributes = rw (length-each (attributeOf _ _), length-each nameOf) (names-within p dAttribute cAttributes refl (omega arith) refl (omega arith));
+      attributes = rw (length-each (attributeOf _ _), length-each nameOf)
+          (names-within p dAttribute cAttributes refl (omega arith) refl (omega arith));
       aliases = rw (length-each (aliasEntry _)) (at-within p cAliases (omega arith) (λ k. eqb k kType || eqb k kTypealias) pThird _
-          (λ k e. or-cases (eqb k kType) (eqb k kTypealias) e (λ z. rw (eqb-true k kType z)) (λ z. rw (eqb-true k kTypealias z))) (λ s e. rw length-each (names-le pThird s)));
+          (λ k e. or-cases (eqb k kType) (eqb k kTypealias) e (λ z. rw (eqb-true k kType z)) (λ z. rw (eqb-true k kTypealias z)))
+          (λ s e. rw length-each (names-le pThird s)));
       classes = rw (length-each (classOf _)) (single-within p dClass cClasses refl (omega arith) refl refl (omega arith));
       commons = rw (length-each nameOf) (names-within p dCommon cCommons refl (omega arith) refl (omega arith));
       roles = rw (roles-long, length-each nameOf) (single-within p dRole cRoles refl (omega arith) refl refl (omega arith));
-      users = kept-within p cUsers (omega arith) (λ k. eqb k kUser) pFirst (userOf n) (λ k e. rw (eqb-true k kUser e)) (λ s e. rw length-each (names-le pFirst s));
-      bools = kept-within p cBools (omega arith) (λ k. eqb k kBool) pFirst switchOf (λ k e. rw (eqb-true k kBool e)) (λ s e. rw length-each (names-le pFirst s));
-      perms = all-each (classOf ss) (all-of (λ d. rw length-each (few-perms ss (few-common p) (few-own p) (few-beside p) (d .text))) (keep (λ d. eqb (d .kind) dClass) (declared ss)));
+      users = kept-within p cUsers (omega arith) (λ k. eqb k kUser) pFirst (userOf n) (λ k e. rw (eqb-true k kUser e))
+          (λ s e. rw length-each (names-le pFirst s));
+      bools = kept-within p cBools (omega arith) (λ k. eqb k kBool) pFirst switchOf (λ k e. rw (eqb-true k kBool e))
+          (λ s e. rw length-each (names-le pFirst s));
+      perms = all-each (classOf ss) (all-of (λ d. rw length-each (few-perms ss (few-common p) (few-own p) (few-beside p) (d .text)))
+          (keep (λ d. eqb (d .kind) dClass) (declared ss)));
       ifs = rw (length-each (ifOf _)) (forms-within p cIfs (omega arith) (λ k. eqb k kIf) (λ k e. rw (eqb-true k kIf e)));
       rows = rw joined-each (kept-within p cAvRows (omega arith) (λ k. isAv k) pClass (λ s. rowsOf (ruleOf n s)) (λ k e. simp (and-false, e))
           (λ s e. rw (length-each, class-words (λ k. isAv k) refl n s e) (omega arith)));
-      typeRows = kept-within p cTypeRows (omega arith) (λ k. isTypeRule k) pClass (typeRowsOf n) type-rows (λ s e. rw (length-each, class-words (λ k. isTypeRule k) refl n s e) (omega arith));
+      typeRows = kept-within p cTypeRows (omega arith) (λ k. isTypeRule k) pClass (typeRowsOf n) type-rows
+          (λ s e. rw (length-each, class-words (λ k. isTypeRule k) refl n s e) (omega arith));
       roleRules = rw (length-each (roleAllowOf _), length-each (roleTransitionOf _)) (role-rules p);
-      constrains = rw (length-each (constrainOf _)) (forms-within p cConstrains (omega arith) (λ k. eqb k kConstrain) (λ k e. rw (eqb-true k kConstrain e)));
+      constrains = rw (length-each (constrainOf _))
+          (forms-within p cConstrains (omega arith) (λ k. eqb k kConstrain) (λ k e. rw (eqb-true k kConstrain e)));
       ifWords = all-keep _ (λ s e h. omega (arith, test-words s)) words;
-      ifCodes = all-each (ifOf n) (all-keep _ (λ s e h. omega (arith, test-words s, length-each (boolToken n) (part pTest s), postfix-le [] (each (boolToken n) (part pTest s)))) words);
+      ifCodes = all-each (ifOf n) (all-keep _ (λ s e h. omega (arith, if-code n s)) words);
       constrainWords = all-keep _ (λ s e h. h) words;
-      constrainCodes = all-each (constrainOf n) (all-keep _ (λ s e h. omega (arith, postfix-le [] (readTests n (constraintWords s) .tokens), tests-le n (constraintWords s))) words);
+      constrainCodes = all-each (constrainOf n) (all-keep _ (λ s e h. omega (arith, constrain-code n s)) words);
+      typeNames = rw (length-each nameOf) (names-within p dType cTypes refl (omega arith) refl (omega arith));
+      roleNames = rw (length-each nameOf) (single-within p dRole cRoles refl (omega arith) refl refl (omega arith));
       userNames = rw (length-each nameOf) (names-within p dUser cUsers refl (omega arith) refl (omega arith));
       boolNames = rw (length-each nameOf) (names-within p dBool cBools refl (omega arith) refl (omega arith));
       typeBytes = types-fit ss short n _ _ 0 _ (kind-fit ss short dType);

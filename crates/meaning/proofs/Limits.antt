@@ -70,7 +70,8 @@ module _ {g : Gathered} (p : Passed outside noCounts g) (j : ℕ) (some : j < cN
   first-within m o n =
       let t = shares-within j some p in
       let u = joined-sum (firsts m) (share j) (all-map (λ s h. if-le (eqb (s .form) m) (namesAt pFirst s) _
-          (λ e. let z = eqb-true (s .form) m e in let a = h (rw z o) in let b = one-of (s .form) (ap wholeCount z ∙ n) in omega arith)) (all-single p)) in
+          (λ e. let z = eqb-true (s .form) m e in let a = h (rw z o) in let b = one-of (s .form) (ap wholeCount z ∙ n) in omega arith))
+          (all-single p)) in
       omega arith where
         one-of : (k : ℕ) → wholeCount k ≡ j → oneIf (eqb (wholeCount k) j) ≡ 1
         one-of k e = ap oneIf (eq-eqb (wholeCount k) j e) ∙ (unfold oneIf in refl)
