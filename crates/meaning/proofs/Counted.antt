@@ -53,8 +53,8 @@ unfolding says ofE
 says-uncounted st k y s =
     let o : (ofE st k || saying k) ≡ true = and-both (active (st .kw) && not (idle st)) (ofE st k || saying k) s .1 in
     let i : inE st ≡ true =
-        or-cases (ofE st k) (saying k) o (λ e. bool-cases (inE st) (λ z. z) (λ z. absurd (false≢true (rw z at e))))
-        (λ e. absurd (false≢true (sym y ∙ e))) in
+    or-cases (ofE st k) (saying k) o (λ e. bool-cases (inE st) (λ z. z) (λ z. absurd (false≢true (rw z at e))))
+    (λ e. absurd (false≢true (sym y ∙ e))) in
     uncounted (st .kw) (st .pos) (leb-true pTest (st .pos) (and-both (leb pTest (st .pos)) (leb (st .pos) pTypes) i .0))
 
 -- a word counts for j where it says something that does, ends a statement that does, or is `if`: never two of the three

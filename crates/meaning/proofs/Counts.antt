@@ -105,11 +105,11 @@ role-rules : {g : Gathered} → Passed outside noCounts g
 unfolding ofForm wholeCount formCount
 role-rules {g} p =
     let a = keep-two {A = Statement} (λ s. eqb (s .form) kRoleAllow) (λ s. eqb (s .form) kRoleTransition)
-        (λ s. eqb (s .form) kRoleAllow || eqb (s .form) kRoleTransition)
-        (λ s e. rw e) (λ s e. rw (eqb-true (s .form) kRoleTransition e)) (λ s e. rw (eqb-true (s .form) kRoleAllow e)) (g .rest) in
+    (λ s. eqb (s .form) kRoleAllow || eqb (s .form) kRoleTransition)
+    (λ s e. rw e) (λ s e. rw (eqb-true (s .form) kRoleTransition e)) (λ s e. rw (eqb-true (s .form) kRoleAllow e)) (g .rest) in
     let b = forms-within p cRoleRules (omega arith) (λ k. eqb k kRoleAllow || eqb k kRoleTransition)
-        (λ k e. or-cases (eqb k kRoleAllow) (eqb k kRoleTransition) e
-        (λ z. rw (eqb-true k kRoleAllow z)) (λ z. rw (eqb-true k kRoleTransition z))) in
+    (λ k e. or-cases (eqb k kRoleAllow) (eqb k kRoleTransition) e
+    (λ z. rw (eqb-true k kRoleAllow z)) (λ z. rw (eqb-true k kRoleTransition z))) in
     omega arith
 
 if-code : (n : Names) (s : Statement) → length (ifOf n s) ≤ length (constraintWords s)

@@ -47,7 +47,7 @@ module _ {g : Gathered} (p : Passed outside noCounts g) (j : ℕ) (some : j < cN
   at-within K q f n h =
       let t = shares-within j some p in
       let u = joined-sum (λ s. if K (s .form) then f s else []) (share j) (all-of (λ s. if-le (K (s .form)) (f s) _
-          (λ e. let a = h s e in let b = part-le j q s (n (s .form) e) in omega arith)) (g .rest)) in
+      (λ e. let a = h s e in let b = part-le j q s (n (s .form) e) in omega arith)) (g .rest)) in
       omega arith
 
   pub kept-within : {B : Type 0} (K : ℕ → Bool) (q : ℕ) (f : Statement → List B) → ((k : ℕ) → K k ≡ true → nameCount k q ≡ j)
@@ -61,7 +61,7 @@ module _ {g : Gathered} (p : Passed outside noCounts g) (j : ℕ) (some : j < cN
   forms-within K n =
       let t = shares-within j some p in
       let u = keep-sum (λ s. K (s .form)) (share j)
-          (all-of (λ s. let o = one-le (K (s .form)) _ (λ e. eq-eqb _ j (n (s .form) e)) in omega arith) (g .rest)) in
+      (all-of (λ s. let o = one-le (K (s .form)) _ (λ e. eq-eqb _ j (n (s .form) e)) in omega arith) (g .rest)) in
       omega arith
 
   -- names at the first position, where a statement of the form has one
@@ -70,8 +70,8 @@ module _ {g : Gathered} (p : Passed outside noCounts g) (j : ℕ) (some : j < cN
   first-within m o n =
       let t = shares-within j some p in
       let u = joined-sum (firsts m) (share j) (all-map (λ s h. if-le (eqb (s .form) m) (namesAt pFirst s) _
-          (λ e. let z = eqb-true (s .form) m e in let a = h (rw z o) in let b = one-of (s .form) (ap wholeCount z ∙ n) in omega arith))
-          (all-single p)) in
+      (λ e. let z = eqb-true (s .form) m e in let a = h (rw z o) in let b = one-of (s .form) (ap wholeCount z ∙ n) in omega arith))
+      (all-single p)) in
       omega arith where
         one-of : (k : ℕ) → wholeCount k ≡ j → oneIf (eqb (wholeCount k) j) ≡ 1
         one-of k e = ap oneIf (eq-eqb (wholeCount k) j e) ∙ (unfold oneIf in refl)

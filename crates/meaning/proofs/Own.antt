@@ -36,7 +36,7 @@ own-adds st w c m true s h z f =
     (omega arith, omega arith)
 own-adds st w c m false s h z f =
     let a : c .own ≤ counted st (w .kind) c .own =
-        rw z (bool-cases (eqb (ownLimit st (w .kind)) 0) (λ e. rw e (omega arith)) (λ e. rw e (omega arith))) in
+    rw z (bool-cases (eqb (ownLimit st (w .kind)) 0) (λ e. rw e (omega arith)) (λ e. rw e (omega arith))) in
     (omega arith, omega arith)
 
 module _ (K : ℕ → Bool) (q : Item → Bool) (m : ℕ) (some : 0 < m)
@@ -50,9 +50,9 @@ module _ (K : ℕ → Bool) (q : Item → Bool) (m : ℕ) (some : 0 < m)
       (λ z. rw (stop-silent st (w .kind) (rw z), nothing-said p (left-behind st (w .kind) z a)) (omega arith))
       (λ z.
       let t : length (keep q (r .items)) ≤ m - counted st (w .kind) c .own =
-          tail-cases st (w .kind) a p (λ e. own-left p (rw e h)) (λ e. rw e (omega arith)) in
+      tail-cases st (w .kind) a p (λ e. own-left p (rw e h)) (λ e. rw e (omega arith)) in
       let o = own-adds st w c m (says st (w .kind) && q (itemOf st w)) some
-          (λ y. let s = and-both (says st (w .kind)) (q (itemOf st w)) y in limit st w (s .0) h (s .1)) z f in
+      (λ y. let s = and-both (says st (w .kind)) (q (itemOf st w)) y in limit st w (s .0) h (s .1)) z f in
       omega arith)
 
   own-few : {g : Gathered} (F : ℕ → Bool) → ((k f : ℕ) → Form k f → starts k ≡ true → F f ≡ true → K k ≡ true)

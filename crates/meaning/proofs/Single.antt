@@ -66,9 +66,9 @@ one-name {st} (goes {r = r} w a f p) s =
     (λ e.
     let ih = one-name p (rw (stays st (w .kind) e) s) in
     let o = one-two (says st (w .kind) && named (itemOf st w)) (eqb (step st (w .kind) .pos) pFirst) (eqb (st .pos) pFirst)
-        (λ h. moves-on st w s h .0)
-        (λ h. eq-eqb (st .pos) pFirst (first-before st (w .kind) e (eqb-true (step st (w .kind) .pos) pFirst h)))
-        (λ h. moves-on st w s h .1) in
+    (λ h. moves-on st w s h .0)
+    (λ h. eq-eqb (st .pos) pFirst (first-before st (w .kind) e (eqb-true (step st (w .kind) .pos) pFirst h)))
+    (λ h. moves-on st w s h .1) in
     omega arith)
 
 pub all-single : {g : Gathered} → Passed outside noCounts g

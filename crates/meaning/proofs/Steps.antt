@@ -79,7 +79,7 @@ module _ (P : Seen → Type 0) (st : Seen) (k : ℕ) (gone : ends st k ≡ true 
       (either (eqb k kName || eqb k kSelf || eqb k kStar)
       (either (not (st .inside)) (on _ _ (behind-later st)) (either (eqb (st .sign) minus) (still _ _) (still _ _))) (still _ _)))))))))
 
-  pub step-cases : starts k ≡ false → P (step st k)
+  step-cases : starts k ≡ false → P (step st k)
   unfolding step
   step-cases h = rw (h, step) (after (eqb k kSemi) (inE st) (semi-ends st k)) where
     after : (a b : Bool) → (a ≡ true → ends st k ≡ true)
