@@ -29,3 +29,14 @@ pub mod Masks
 pub mod Asked
 pub mod Typed
 pub mod Never
+-- sizes: what is counted bounds what a text says
+pub mod Lengths
+pub mod Steps
+pub mod Passed
+pub mod Counted
+pub mod Single
+pub mod Limits
+pub mod Own
+pub mod Kept
+pub mod Held
+pub mod Counts

@@ -92,6 +92,7 @@ height-below {f = f} n w {x = x} {d = d} g l = bool-cases (ltb d n) (ltb-true d 
         let b = upper-height g j (omega arith) in
         let s : a .0 ≡ b .0 = one-height (a .2) (subst (λ y. Grounded f y (b .0)) (sym q) (b .2)) in
         omega arith
+
     long : n ≤ d → ⊥
     long h = pigeons n (λ i. upper f i x) (λ i k. upper-below f n w i x l) (apart h)
 
@@ -187,8 +188,8 @@ module _ (n : ℕ) (place : Bound → ℕ) where
       same-or (b .child) x
       (λ s. own-child b (bs ++ before) x s ∙ ap parent (sym (no-other n b before (c .0) p (ap (parentIn before) s ∙ q))))
       (λ h.
-        other-child b (bs ++ before) x h ∙ sym (further b bs before x h)
-        ∙ given-stays (b ∷ before) bs (c .1) x p (other-child b before x h ∙ q))
+      other-child b (bs ++ before) x h ∙ sym (further b bs before x h)
+      ∙ given-stays (b ∷ before) bs (c .1) x p (other-child b before x h ∙ q))
 
   -- so it does not matter where a bound stands
   in-front : (before : List Bound) (b : Bound) (bs : List Bound) → firstAgainst (boundClash n) place (b ∷ before) bs ≡ nowhere

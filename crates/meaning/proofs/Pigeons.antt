@@ -39,6 +39,7 @@ module _ (n : ℕ) (g : ℕ → ℕ) (small : (i : ℕ) → i ≤ suc n → g i 
     where
       same : g i ≡ g j → i ≡ j
       same = differ i j (omega arith) (omega arith)
+
       go : (t u : Bool) → eqb (g i) n ≡ t → eqb (g j) n ≡ u → (if t then g (suc n) else g i) ≡ (if u then g (suc n) else g j) → i ≡ j
       go true true a b e = same (eqb-true (g i) n a ∙ sym (eqb-true (g j) n b))
       go true false a b e = absurd (not-last j k (sym e))
