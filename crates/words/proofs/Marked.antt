@@ -2,8 +2,7 @@
 -- Assumes nothing.
 use Prim.Native.Nat.{ℕ, _+_, _≤_, _<_}
 use native.Mathlib.Omega.{arith}
-use native.Mathlib.Numerals.{add-one}
-use mathlib.Core.Path.{_≡_, refl, sym, _∙_}
+use mathlib.Core.Path.{_≡_, refl, sym}
 use mathlib.Core.Bool.{Bool, true, false, _&&_}
 use mathlib.Core.List.{List, [], _∷_}
 use borrow.Author.Tests.{eq-eqb, ne-eqb, eqb-true, eqb-false}
@@ -12,7 +11,7 @@ use lib.ListN.{length, drop, getD, drop-of-length-le}
 use lib.Seq.{drop-cons}
 use Rattle.meaning.specs.Plain.{if_then_else_}
 use Rattle.meaning.specs.Keywords.{bytes, marks, kindFrom, markOf, kBad}
-use Rattle.meaning.specs.Words.{word, markHere}
+use Rattle.meaning.specs.Words.{markHere}
 use Rattle.words.specs.Spans.{spanOf}
 
 pub if-same : {A : Type 0} (t : Bool) (x : A) → (if t then x else x) ≡ x

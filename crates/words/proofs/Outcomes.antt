@@ -5,13 +5,13 @@ use Prim.Native.Nat.{ℕ, suc, _+_, _-_, _≤_, _<_}
 use native.Mathlib.Omega.{arith}
 use native.Mathlib.Nat.{add-zero}
 use native.Mathlib.Numerals.{add-one}
-use mathlib.Core.Path.{_≡_, refl, sym, _∙_, ap}
-use mathlib.Core.Bool.{Bool, true, false}
-use mathlib.Core.List.{List, [], _∷_}
+use mathlib.Core.Path.{_≡_, sym, _∙_, ap}
+use mathlib.Core.Bool.{true, false}
+use mathlib.Core.List.{List, _∷_}
 use lib.ListN.{length, take, drop, getD, drop-of-length-le, length-drop}
 use lib.Seq.{drop-cons, length-take-le}
 use Rattle.meaning.specs.Keywords.{kindOf, kEnd}
-use Rattle.meaning.specs.Words.{word, isLetter, between, naming, scanTo, markHere, wordHere, wordAt}
+use Rattle.meaning.specs.Words.{isLetter, between, naming, scanTo, markHere, wordHere, wordAt}
 use Rattle.words.specs.declared.Span.{Span}
 use Rattle.words.specs.Spans.{spanOf, Placed}
 use Rattle.words.proofs.Scanned.{scan-from, scan-inside}

@@ -1,8 +1,8 @@
 -- A word of a text as the code has it: its kind, the place of its first byte and the place behind its last.
 --
---   spanOf w        the span of a word
---   Placed s p r    where a span that was read from the place p on lies: what a loop over the words of s lives on
---   wordsBehind s p the words of s at or behind the place p
+--   spanOf w           the span of the word w
+--   Placed s p r       where r lies, the span of the word of s at or behind the place p: what a loop over the words lives on
+--   wordsBehind s p    the words of s at or behind the place p; each has a byte, so no more are asked for than s has bytes
 use Prim.Native.Nat.{ℕ, _≤_, _<_}
 use mathlib.Core.Path.{_≡_}
 use mathlib.Core.List.{List}

@@ -7,10 +7,15 @@ ghost use Rattle.words.specs.Spans.{spanOf, Placed};
 ghost use Rattle.words.specs.Keys.{keyTable};
 
 pub mod scan; // what separates words, and how far a name goes
-pub mod marks; // words of one or two bytes that are no names
-pub mod keys; // the keywords
+mod marks; // words of one byte or two that are no names
+pub mod keywords; // which names are keywords
 
-// The kind of what stands behind the last word.
+// The kinds of a byte that begins no word, of a name, and of what stands behind the last word. The marks' kinds and the
+// keywords' stand in marks.rt and keywords.rt.
+pub const BAD: u8 = 0;
+
+pub const NAME: u8 = 1;
+
 pub const END: u8 = 56;
 
 // A word: its kind, the place of its first byte and the place behind its last.
@@ -21,7 +26,7 @@ pub struct Span {
 }
 
 // The word at or behind `at`. Where none is left its kind is END, and it is empty, at the text's end or at `at` past that.
-pub fn word_at(keys: &[u8; 774], text: &[u8], at: usize) -> Span
+pub fn word_at(keys: &[u8; keywords::SIZE], text: &[u8], at: usize) -> Span
     requires { ⌜ now keys ≡ keyTable ⌝ }
     ensures { λ r. ⌜ r ≡ spanOf (wordAt (now (text .entry)) at) ⌝ }
     ensures placed { λ r. ⌜ Placed (now (text .entry)) at r ⌝ }
@@ -36,7 +41,7 @@ pub fn word_at(keys: &[u8; 774], text: &[u8], at: usize) -> Span
     }
     if scan::is_letter(text[start]) {
         let end = scan::scan_to(text, start + 1, scan::NAMING);
-        let kind = keys::kind_of(keys, &text[start..end]);
+        let kind = keywords::kind_of(keys, &text[start..end]);
         return Span { kind, start, end };
     }
     marks::mark_at(text, start)
@@ -46,7 +51,7 @@ pub fn word_at(keys: &[u8; 774], text: &[u8], at: usize) -> Span
 pub fn count_words(text: &[u8]) -> usize
     ensures { λ r. ⌜ r ≡ length (wordsOf (now (text .entry))) ⌝ }
 {
-    let keys = keys::table();
+    let keys = keywords::table();
     let mut at = 0;
     let mut n = 0;
     loop {

@@ -1,4 +1,4 @@
-// The marks: words of one byte or two that are no names.
+// The marks: words of one byte or two that are no names. Their kinds count from 2 through the definitions' list.
 ghost use mathlib.Core.Path.{_≡_};
 ghost use mathlib.Core.List.{[], _∷_};
 ghost use Prim.Native.Nat.{_+_, _<_};
@@ -6,13 +6,11 @@ ghost use lib.ListN.{length, drop, getD};
 ghost use Rattle.meaning.specs.Keywords.{markOf};
 ghost use Rattle.meaning.specs.Words.{markHere};
 ghost use Rattle.words.specs.Spans.{spanOf};
+use crate::BAD;
 use crate::Span;
 
-// The kind of a byte that begins no word.
-pub const BAD: u8 = 0;
-
 // The kind of the mark that the byte makes, or BAD.
-pub fn mark_one(b: u8) -> u8
+fn mark_one(b: u8) -> u8
     ensures { λ r. ⌜ r ≡ markOf (b ∷ []) ⌝ }
 {
     match b {
@@ -33,7 +31,7 @@ pub fn mark_one(b: u8) -> u8
 }
 
 // The kind of the mark that two bytes make, or BAD.
-pub fn mark_two(a: u8, b: u8) -> u8
+fn mark_two(a: u8, b: u8) -> u8
     ensures { λ r. ⌜ r ≡ markOf (a ∷ b ∷ []) ⌝ }
 {
     if (a == b'=') & (b == b'=') {

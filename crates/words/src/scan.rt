@@ -1,20 +1,19 @@
 // The bytes that separate words, and those of a name: where a run of either ends.
 ghost use mathlib.Core.Path.{_≡_};
-ghost use Prim.Native.Nat.{_≤_};
-ghost use lib.ListN.{length, drop};
+ghost use lib.ListN.{drop};
 ghost use Rattle.meaning.specs.Words.{isBlank, isLetter, inName, scanStep, scanTo};
 
 // What a scan is in.
 pub const BETWEEN: u8 = 0;
 
-pub const COMMENT: u8 = 1;
+const COMMENT: u8 = 1;
 
 pub const NAMING: u8 = 2;
 
-pub const STOPPED: u8 = 3;
+const STOPPED: u8 = 3;
 
 // Whether the byte separates words by itself.
-pub fn is_blank(b: u8) -> bool
+fn is_blank(b: u8) -> bool
     ensures { λ r. ⌜ r ≡ isBlank b ⌝ }
 {
     (b == b' ') | (b == b'\t') | (b == b'\r') | (b == b'\n')
@@ -35,7 +34,7 @@ pub fn in_name(b: u8) -> bool
 }
 
 // What the scan is in after the byte; STOPPED where the byte is no longer of it.
-pub fn scan_step(st: u8, b: u8) -> u8
+fn scan_step(st: u8, b: u8) -> u8
     ensures { λ r. ⌜ r ≡ scanStep st b ⌝ }
 {
     if st == COMMENT {

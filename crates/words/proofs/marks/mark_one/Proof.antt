@@ -57,7 +57,21 @@ returns-13 : tie.Need-returns-13
 unfolding markOf kindFrom marks bytes
 returns-13 c =
     let n = c .match .rest in
-    simp (if-same, other _ _ (n .0 .0 .0 .0 .0 .0 .0 .0 .0 .0 .0 .1), other _ _ (n .0 .0 .0 .0 .0 .0 .0 .0 .0 .0 .1), other _ _ (n .0 .0 .0 .0 .0 .0 .0 .0 .0 .1), other _ _ (n .0 .0 .0 .0 .0 .0 .0 .0 .1), other _ _ (n .0 .0 .0 .0 .0 .0 .0 .1), other _ _ (n .0 .0 .0 .0 .0 .0 .1), other _ _ (n .0 .0 .0 .0 .0 .1), other _ _ (n .0 .0 .0 .0 .1), other _ _ (n .0 .0 .0 .1), other _ _ (n .0 .0 .1), other _ _ (n .0 .1), other _ _ (n .1))
+    simp (
+      if-same,
+      other _ _ (n .0 .0 .0 .0 .0 .0 .0 .0 .0 .0 .0 .1),
+      other _ _ (n .0 .0 .0 .0 .0 .0 .0 .0 .0 .0 .1),
+      other _ _ (n .0 .0 .0 .0 .0 .0 .0 .0 .0 .1),
+      other _ _ (n .0 .0 .0 .0 .0 .0 .0 .0 .1),
+      other _ _ (n .0 .0 .0 .0 .0 .0 .0 .1),
+      other _ _ (n .0 .0 .0 .0 .0 .0 .1),
+      other _ _ (n .0 .0 .0 .0 .0 .1),
+      other _ _ (n .0 .0 .0 .0 .1),
+      other _ _ (n .0 .0 .0 .1),
+      other _ _ (n .0 .0 .1),
+      other _ _ (n .0 .1),
+      other _ _ (n .1),
+    )
 
 pub mark-one-spec : {M : Type 1} → statement M
 mark-one-spec =

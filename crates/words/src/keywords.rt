@@ -1,21 +1,31 @@
-// The keywords: which kind an identifier has.
+// The keywords. The slot of an identifier leads to the one keyword that it can be, and one comparison decides: it has that
+// keyword's kind or is a NAME. The words stand once, in a table that a function makes and lends on.
 ghost use mathlib.Core.Path.{_≡_};
 ghost use Prim.Native.Nat.{_<_};
 ghost use lib.ListN.{length, getD};
 ghost use Rattle.meaning.specs.Plain.{sameBytes};
 ghost use Rattle.meaning.specs.Keywords.{kindOf};
-ghost use Rattle.words.specs.Keys.{keyword, slotOf, keyTable};
+ghost use Rattle.words.specs.Keys.{keyCount, keyWidth, keyword, blank, slotOf, keyTable};
+use crate::NAME;
 
-// The kind of an identifier that is no keyword, the kind of the first keyword, and how many there are.
-pub const NAME: u8 = 1;
+// How many slots there are, how many keywords, and how many bytes each of these takes.
+const SLOTS: usize = 128;
 
+const COUNT: usize = 38;
+
+const WIDTH: usize = 16;
+
+// Where the keywords' bytes begin, behind the slots and the lengths.
+const BYTES: usize = SLOTS + COUNT;
+
+// The size of the table.
+pub const SIZE: usize = BYTES + COUNT * WIDTH;
+
+// The kind of the first keyword; the others follow in the table's order.
 const FIRST: u8 = 18;
 
-const COUNT: u8 = 38;
-
-// The keywords, for `table`: in 128 slots the number of the keyword with that slot, or COUNT; then the lengths of the
-// keywords; then their bytes, 16 to a keyword, filled up with spaces.
-const KEYS: [u8; 774] = *b"\
+// In each slot the number of the keyword that has it, or COUNT; the lengths of the keywords; their bytes, filled up with spaces.
+const KEYS: [u8; SIZE] = *b"\
     \x26\x26\x26\x26\x26\x12\x26\x11\x26\x26\x0a\x26\x17\x26\x26\x26\
     \x0b\x26\x26\x0c\x26\x04\x26\x26\x26\x26\x26\x1d\x26\x26\x26\x1b\
     \x26\x26\x0e\x26\x26\x01\x26\x26\x26\x26\x26\x26\x06\x22\x26\x14\
@@ -65,8 +75,8 @@ const KEYS: [u8; 774] = *b"\
     t1              \
     t2              ";
 
-// The table of the keywords. A function makes it once and lends it on.
-pub fn table() -> [u8; 774]
+// The table of the keywords, to be lent to `kind_of`.
+pub fn table() -> [u8; SIZE]
     ensures { λ r. ⌜ r ≡ keyTable ⌝ }
 {
     KEYS
@@ -79,7 +89,7 @@ fn wide(b: u8) -> usize
     b as usize
 }
 
-// The slot of a word: no two keywords have one slot.
+// The slot of a word, from its first byte, the one in its middle and its last. No two keywords have one slot.
 fn slot_of(word: &[u8]) -> usize
     requires { ⌜ 0 < length (now word) ⌝ }
     ensures { λ r. ⌜ r ≡ slotOf (now (word .entry)) ⌝ }
@@ -87,28 +97,28 @@ fn slot_of(word: &[u8]) -> usize
     let first = wide(word[0]);
     let middle = wide(word[word.len() / 2]);
     let last = wide(word[word.len() - 1]);
-    (3 * first + 6 * middle + last) % 128
+    (3 * first + 6 * middle + last) % SLOTS
 }
 
 // How many bytes keyword `k` has.
-fn key_len(keys: &[u8; 774], k: u8) -> usize
-    requires { ⌜ (now keys ≡ keyTable) × (k < 38) ⌝ }
+fn key_len(keys: &[u8; SIZE], k: usize) -> usize
+    requires { ⌜ (now keys ≡ keyTable) × (k < keyCount) ⌝ }
     ensures { λ r. ⌜ r ≡ length (keyword k) ⌝ }
 {
-    wide(keys[128 + k as usize])
+    wide(keys[SLOTS + k])
 }
 
 // Byte `j` of keyword `k`, a space behind its end.
-fn key_byte(keys: &[u8; 774], k: u8, j: usize) -> u8
-    requires { ⌜ (now keys ≡ keyTable) × (k < 38) × (j < 16) ⌝ }
-    ensures { λ r. ⌜ r ≡ getD (keyword k) j 32 ⌝ }
+fn key_byte(keys: &[u8; SIZE], k: usize, j: usize) -> u8
+    requires { ⌜ (now keys ≡ keyTable) × (k < keyCount) × (j < keyWidth) ⌝ }
+    ensures { λ r. ⌜ r ≡ getD (keyword k) j blank ⌝ }
 {
-    keys[166 + 16 * k as usize + j]
+    keys[BYTES + WIDTH * k + j]
 }
 
 // Whether the word is keyword `k`.
-fn is_key(keys: &[u8; 774], k: u8, word: &[u8]) -> bool
-    requires { ⌜ (now keys ≡ keyTable) × (k < 38) ⌝ }
+fn is_key(keys: &[u8; SIZE], k: usize, word: &[u8]) -> bool
+    requires { ⌜ (now keys ≡ keyTable) × (k < keyCount) ⌝ }
     ensures { λ r. ⌜ r ≡ sameBytes (keyword k) (now (word .entry)) ⌝ }
 {
     if key_len(keys, k) != word.len() {
@@ -124,8 +134,8 @@ fn is_key(keys: &[u8; 774], k: u8, word: &[u8]) -> bool
     true
 }
 
-// The kind of an identifier: its slot leads to the one keyword that it can be.
-pub fn kind_of(keys: &[u8; 774], word: &[u8]) -> u8
+// The kind of an identifier: a keyword's, or NAME.
+pub fn kind_of(keys: &[u8; SIZE], word: &[u8]) -> u8
     requires { ⌜ now keys ≡ keyTable ⌝ }
     ensures { λ r. ⌜ r ≡ kindOf (now (word .entry)) ⌝ }
 {
@@ -133,12 +143,13 @@ pub fn kind_of(keys: &[u8; 774], word: &[u8]) -> u8
         return NAME;
     }
     let slot = slot_of(word);
-    let k = keys[slot];
+    let n = keys[slot];
+    let k = wide(n);
     if COUNT <= k {
         return NAME;
     }
     if is_key(keys, k, word) {
-        return FIRST + k;
+        return FIRST + n;
     }
     NAME
 }

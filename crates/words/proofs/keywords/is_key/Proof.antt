@@ -1,15 +1,15 @@
--- `words::keys::is_key` meets its contract. Words of another length differ. Else the invariant: the two are the same if what is left
+-- `words::keywords::is_key` meets its contract. Words of another length differ. Else the invariant: the two are the same if what is left
 -- of them from `j` on is. Each turn is one law of Same. The measure is what is left of the word. Assumes nothing.
-use Prim.Native.Nat.{_≤_, _-_}
+use Prim.Native.Nat.{_-_}
 use native.Mathlib.Omega.{arith}
 use mathlib.Core.Path.{_≡_, refl, sym, _∙_}
 use lib.ListN.{length, drop}
 use Rattle.meaning.specs.Plain.{sameBytes}
-use Rattle.words.specs.Keys.{keyword}
+use Rattle.words.specs.Keys.{blank, keyword}
 use Rattle.words.proofs.Recognised.{key-fits}
 use Rattle.words.proofs.Same.{same-length, same-done, same-stops, same-goes}
-use Rattle.words.proofs.keys.is_key.Statement.{statement}
-use Rattle.words.proofs.keys.is_key.Tie as tie
+use Rattle.words.proofs.keywords.is_key.Statement.{statement}
+use Rattle.words.proofs.keywords.is_key.Tie as tie
 
 abbrev Inv-loop : tie.InvT-loop
 Inv-loop keys k word j₀ j =
@@ -41,7 +41,7 @@ returns-2 : tie.Need-returns-2 Inv-loop μ-loop
 returns-2 c =
     let a = c .before .before .before .before .before .before .before .before .args in
     let o = c .before .before .before .before .loop in
-    sym (o .inv .1 ∙ same-stops (keyword (a .k)) (a .word .now) (o .j) 32 (omega arith) (omega arith)
+    sym (o .inv .1 ∙ same-stops (keyword (a .k)) (a .word .now) (o .j) blank (omega arith) (omega arith)
     (λ q. c .if2 .taken (c .before .before .key-byte .ensures ∙ q)))
 
 add-j : tie.Need-add-j Inv-loop μ-loop
@@ -55,7 +55,7 @@ loop-again c =
     let a = c .before .before .before .before .before .before .before .before .args in
     let o = c .before .before .before .before .loop in (
       o .inv .0,
-      o .inv .1 ∙ same-goes (keyword (a .k)) (a .word .now) (o .j) 32 (omega arith) (omega arith)
+      o .inv .1 ∙ same-goes (keyword (a .k)) (a .word .now) (o .j) blank (omega arith) (omega arith)
           (sym (c .before .before .key-byte .ensures) ∙ c .if2 .left),
     )
 
@@ -63,7 +63,7 @@ returns-3 : tie.Need-returns-3 Inv-loop μ-loop
 returns-3 c =
     let a = c .before .before .before .before .before .args in
     let o = c .before .loop in
-    sym (o .inv .1 ∙ same-done (keyword (a .k)) (a .word .now) (o .j) 32 (omega arith) (omega arith))
+    sym (o .inv .1 ∙ same-done (keyword (a .k)) (a .word .now) (o .j) blank (omega arith) (omega arith))
 
 pub is-key-spec : {M : Type 1} → statement M
 is-key-spec =

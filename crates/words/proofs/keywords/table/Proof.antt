@@ -1,9 +1,9 @@
--- `words::keys::table` meets its contract: the list of the keywords, laid out, computes to the bytes of the code. Assumes nothing.
+-- `words::keywords::table` meets its contract: the list of the keywords, laid out, computes to the bytes of the code. Assumes nothing.
 use mathlib.Core.Path.{refl}
 use Rattle.meaning.specs.Keywords.{bytes, keywords}
 use Rattle.words.specs.Keys.{keyword, slotOf, keyEntry, keyTable}
-use Rattle.words.proofs.keys.table.Statement.{statement}
-use Rattle.words.proofs.keys.table.Tie as tie
+use Rattle.words.proofs.keywords.table.Statement.{statement}
+use Rattle.words.proofs.keywords.table.Tie as tie
 
 returns : tie.Need-returns
 unfolding keyTable keyEntry keyword slotOf keywords bytes

@@ -1,9 +1,9 @@
--- `words::keys::key_len` meets its contract: that is what the table holds there. Assumes nothing.
+-- `words::keywords::key_len` meets its contract: that is what the table holds there. Assumes nothing.
 use borrow.Author.Needs.{needs}
 use mathlib.Core.Path.{_∙_}
 use Rattle.words.proofs.Recognised.{table-length}
-use Rattle.words.proofs.keys.key_len.Statement.{statement}
-use Rattle.words.proofs.keys.key_len.Tie as tie
+use Rattle.words.proofs.keywords.key_len.Statement.{statement}
+use Rattle.words.proofs.keywords.key_len.Tie as tie
 
 add-wide : tie.Need-add-wide
 add-wide c = search needs

@@ -1,8 +1,8 @@
--- `words::keys::key_byte` meets its contract: that is what the table holds there. Assumes nothing.
+-- `words::keywords::key_byte` meets its contract: that is what the table holds there. Assumes nothing.
 use borrow.Author.Needs.{needs}
 use Rattle.words.proofs.Recognised.{table-byte}
-use Rattle.words.proofs.keys.key_byte.Statement.{statement}
-use Rattle.words.proofs.keys.key_byte.Tie as tie
+use Rattle.words.proofs.keywords.key_byte.Statement.{statement}
+use Rattle.words.proofs.keywords.key_byte.Tie as tie
 
 mul-result : tie.Need-mul-result
 mul-result c = search needs

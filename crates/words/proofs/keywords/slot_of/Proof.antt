@@ -1,8 +1,8 @@
--- `words::keys::slot_of` meets its contract: it is the definition, with the three bytes as they were read. Assumes nothing.
+-- `words::keywords::slot_of` meets its contract: it is the definition, with the three bytes as they were read. Assumes nothing.
 use borrow.Author.Needs.{needs}
 use Rattle.words.specs.Keys.{slotOf}
-use Rattle.words.proofs.keys.slot_of.Statement.{statement}
-use Rattle.words.proofs.keys.slot_of.Tie as tie
+use Rattle.words.proofs.keywords.slot_of.Statement.{statement}
+use Rattle.words.proofs.keywords.slot_of.Tie as tie
 
 shared-slice-read-wide : tie.Need-shared-slice-read-wide
 shared-slice-read-wide c = search needs
