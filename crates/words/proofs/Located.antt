@@ -65,10 +65,11 @@ module _ (s : List ℕ) (p : ℕ) where
   word-placed =
       let q = scanTo between p (drop p s) in
       let f = front q refl in
+      let size = ap length (f .bytes) ∙ length-take (length (wordAt s p .text)) (drop q s) in
       record {
         begins = omega (arith, scan-from between p (drop p s));
         onward = λ n. omega (arith, scan-from between p (drop p s), f .some n);
-        inside = λ l. omega (arith, scan-inside between p s l, ap length (f .bytes) ∙ length-take (length (wordAt s p .text)) (drop q s), length-drop q s);
+        inside = λ l. omega (arith, scan-inside between p s l, length-drop q s);
       }
 
   -- r is what `word_at` answers at p

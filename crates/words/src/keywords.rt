@@ -25,6 +25,7 @@ pub const SIZE: usize = BYTES + COUNT * WIDTH;
 const FIRST: u8 = 18;
 
 // In each slot the number of the keyword that has it, or COUNT; the lengths of the keywords; their bytes, filled up with spaces.
+// Written by tools/keywords.py from the definitions' list.
 const KEYS: [u8; SIZE] = *b"\
     \x26\x26\x26\x26\x26\x12\x26\x11\x26\x26\x0a\x26\x17\x26\x26\x26\
     \x0b\x26\x26\x0c\x26\x04\x26\x26\x26\x26\x26\x1d\x26\x26\x26\x1b\

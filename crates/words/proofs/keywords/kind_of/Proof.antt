@@ -21,7 +21,8 @@ wide-requires c κs = search needs
 
 returns-2 : tie.Need-returns-2
 returns-2 c =
-    sym (kind-other _ (c .before .before .before .before .before .before .pre) _ _ (c .before .before .before .slot-of .ensures) _ (c .before .wide .ensures .0)
+    let s = c .before .before .before in
+    sym (kind-other _ (s .before .before .before .pre) _ _ (s .slot-of .ensures) _ (c .before .wide .ensures .0)
     (λ h. let x : ⊥ = omega arith in absurd x))
 
 is-key-requires : tie.Need-is-key-requires
@@ -32,8 +33,9 @@ add-result c = search needs
 
 returns-3 : tie.Need-returns-3
 returns-3 c =
+    let a = c .before .before .before .before .before .before .before .before .args in
     let h = sym (c .before .is-key .ensures) ∙ c .if3 .taken in
-    omega (arith, kind-found (c .before .before .before .before .before .before .before .before .args .word .now) _ (c .before .before .if2 .left) h)
+    omega (arith, kind-found (a .word .now) _ (c .before .before .if2 .left) h)
 
 returns-4 : tie.Need-returns-4
 returns-4 c =
