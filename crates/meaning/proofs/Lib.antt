@@ -26,6 +26,7 @@ pub mod Apart
 pub mod Rows
 pub mod Nine
 pub mod Masks
+pub mod Judged
 pub mod Asked
 pub mod Typed
 pub mod Never
