@@ -84,10 +84,14 @@ room-none = record { totals = zeros 14; own = omega arith }
 pub room-most : {n m : ℕ} {c : Counts} → Room n c → n ≤ m → Room m c
 room-most r h = record { totals = λ i. omega (arith, r .totals i); own = r .own }
 
-pub room-next : {n : ℕ} {c : Counts} (st : Seen) (w : Word) → Room n c → exceeds st w (counted st (w .kind) c) ≡ false → Room (n + 1) (counted st (w .kind) c)
+-- c′ are the counts behind the word
+pub room-next : {n : ℕ} {c c′ : Counts} (st : Seen) (w : Word) → Room n c → c′ ≡ counted st (w .kind) c → exceeds st w c′ ≡ false → Room (n + 1) c′
 unfolding counted
-room-next {c = c} st w r h =
-    record {
+room-next {n = n} {c = c} st w r e h =
+    rw e
+    (record {
       totals = λ i. omega (arith, one-more (c .totals) (countOf st (w .kind)) i, r .totals i);
-      own = own-kept (starts (w .kind)) (eqb (ownLimit st (w .kind)) 0) (ownLimit st (w .kind)) (c .own) refl (limit-below st (w .kind)) (r .own) (own-within st w _ h);
-    }
+      own =
+          own-kept (starts (w .kind)) (eqb (ownLimit st (w .kind)) 0) (ownLimit st (w .kind)) (c .own) refl (limit-below st (w .kind)) (r .own)
+          (own-within st w _ (rw e at h));
+    })
