@@ -17,7 +17,7 @@ use Rattle.meaning.specs.Plain.{if_then_else_}
 use Rattle.meaning.specs.Words.{Word}
 use Rattle.meaning.specs.Keywords.{starts, kName, kLparen}
 use Rattle.meaning.specs.Statements.{Seen, ofE}
-use Rattle.meaning.specs.Sizes.{Counts, noCounts, nameCount, formCount, countOf, ownLimit, counted, exceeds, longestName, nestedParentheses}
+use Rattle.meaning.specs.Sizes.{Counts, noCounts, nameCount, formCount, countOf, ownLimit, counted, exceeds, expressionWords, longestName, nestedParentheses}
 use Rattle.reading.specs.Counts.{Room, pastTotal}
 
 -- ---- numbers of a definition by cases
@@ -37,7 +37,7 @@ pub count-below : (st : Seen) (k : ℕ) → countOf st k < 14
 unfolding countOf
 count-below st k = search (either-below, name-below, form-below, lit<, tt) depth 16
 
-limit-below : (st : Seen) (k : ℕ) → ownLimit st k < 41
+limit-below : (st : Seen) (k : ℕ) → ownLimit st k < expressionWords + 1
 unfolding ownLimit
 limit-below st k = search (either-below, lit<, tt) depth 16
 
@@ -55,8 +55,9 @@ zeros (suc n) zero = omega arith
 zeros (suc n) (suc i) = zeros n i
 
 -- ---- the statement's own count: o before the word, whose limit is l
-own-kept : (b z : Bool) (l o : ℕ) → z ≡ eqb l 0 → l < 41 → o ≤ 40
-    → (ltb 0 l && ltb l (if b then 0 else if z then o else o + 1)) ≡ false → (if b then 0 else if z then o else o + 1) ≤ 40
+own-kept : (b z : Bool) (l o : ℕ) → z ≡ eqb l 0 → l < expressionWords + 1 → o ≤ expressionWords
+    → (ltb 0 l && ltb l (if b then 0 else if z then o else o + 1)) ≡ false
+    → (if b then 0 else if z then o else o + 1) ≤ expressionWords
 own-kept true z l o e p q h = omega arith
 own-kept false true l o e p q h = q
 own-kept false false l o e p q h =
@@ -70,7 +71,8 @@ third false false true d h = h
 third false true c d h = absurd (true≢false h)
 third true b c d h = absurd (true≢false h)
 
-own-within : (st : Seen) (w : Word) (c : Counts) → exceeds st w c ≡ false → (ltb 0 (ownLimit st (w .kind)) && ltb (ownLimit st (w .kind)) (c .own)) ≡ false
+own-within : (st : Seen) (w : Word) (c : Counts) → exceeds st w c ≡ false
+    → (ltb 0 (ownLimit st (w .kind)) && ltb (ownLimit st (w .kind)) (c .own)) ≡ false
 unfolding exceeds
 own-within st w c h =
     third (eqb (w .kind) kName && ltb longestName (length (w .text))) (pastTotal (c .totals) (countOf st (w .kind))) _
@@ -85,13 +87,14 @@ pub room-most : {n m : ℕ} {c : Counts} → Room n c → n ≤ m → Room m c
 room-most r h = record { totals = λ i. omega (arith, r .totals i); own = r .own }
 
 -- c′ are the counts behind the word
-pub room-next : {n : ℕ} {c c′ : Counts} (st : Seen) (w : Word) → Room n c → c′ ≡ counted st (w .kind) c → exceeds st w c′ ≡ false → Room (n + 1) c′
+pub room-next : {n : ℕ} {c c′ : Counts} (st : Seen) (w : Word) → Room n c → c′ ≡ counted st (w .kind) c
+    → exceeds st w c′ ≡ false → Room (n + 1) c′
 unfolding counted
-room-next {n = n} {c = c} st w r e h =
+room-next {c = c} st w r e h =
     rw e
     (record {
       totals = λ i. omega (arith, one-more (c .totals) (countOf st (w .kind)) i, r .totals i);
       own =
-          own-kept (starts (w .kind)) (eqb (ownLimit st (w .kind)) 0) (ownLimit st (w .kind)) (c .own) refl (limit-below st (w .kind)) (r .own)
-          (own-within st w _ (rw e at h));
+          own-kept (starts (w .kind)) (eqb (ownLimit st (w .kind)) 0) (ownLimit st (w .kind)) (c .own) refl
+          (limit-below st (w .kind)) (r .own) (own-within st w _ (rw e at h));
     })

@@ -27,7 +27,7 @@ pub const MINUS: u8 = 1;
 
 pub const TILDE: u8 = 2;
 
-// No statement: what `kw` is outside one.
+// The keyword outside a statement, and the form of one that is not whole.
 pub const NONE: u8 = 0;
 
 // Open parentheses are counted no further than this.

@@ -13,6 +13,7 @@ use crate::Seen;
 use crate::kinds::*;
 use crate::positions::*;
 use crate::statements::*;
+use crate::step::starts;
 
 // What is counted over the whole text.
 pub const C_TYPES: u8 = 0;
@@ -59,7 +60,7 @@ const OWN_PERMISSIONS: u8 = 32;
 const OWN_BESIDE_COMMON: u8 = 16;
 
 // What a word that says something counts for, by the statement's keyword and the position.
-pub fn name_count(k: u8, p: u8) -> u8
+fn name_count(k: u8, p: u8) -> u8
     ensures { λ r. ⌜ r ≡ nameCount k p ⌝ }
 {
     if (k == K_TYPE) & (p == P_FIRST) {
@@ -90,7 +91,7 @@ pub fn name_count(k: u8, p: u8) -> u8
 }
 
 // What a whole statement of this form counts for.
-pub fn form_count(f: u8) -> u8
+fn form_count(f: u8) -> u8
     ensures { λ r. ⌜ r ≡ formCount f ⌝ }
 {
     if f == K_CLASS {
@@ -162,7 +163,8 @@ fn own_count(own: u8, st: Seen, k: u8) -> u8
     own + 1
 }
 
-// Counts a word of kind k: one more in its total, and the statement's own count as the result.
+// Counts a word of kind k: one more in its total, and the statement's own count as the result. It asks for room: a total that
+// 65,534 words have raised has room for one more, and a text has at most 32,768 (proofs/Room.antt: a loop over words keeps it).
 pub fn count(totals: &mut [u16; 14], own: u8, st: Seen, k: u8) -> u8
     requires { ⌜ Room 65534 (countsOf (now totals) own) ⌝ }
     ensures { λ r. ⌜ countsOf (now (totals .exit)) r ≡ counted (seenOf st) k (countsOf (now (totals .entry)) own) ⌝ }

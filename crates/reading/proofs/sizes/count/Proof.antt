@@ -1,5 +1,5 @@
--- `reading::sizes::count` meets its contract. The total is one of the 14 (`count-below`), and no total is so large
--- that one more does not fit, by what is required. The record is the definition's, with what the callees answer put in.
+-- `reading::sizes::count` meets its contract. The total is one of the 14 (`count-below`), and no total is so large that one
+-- more does not fit, by what is required. The record is the definition's, with what the callees answer put in.
 -- Assumes nothing.
 use native.Mathlib.Omega.{arith}
 use borrow.Author.Needs.{needs}

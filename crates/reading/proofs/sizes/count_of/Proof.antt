@@ -1,6 +1,5 @@
--- `reading::sizes::count_of` meets its contract. At each return `search` follows the code's tests through the
--- definition's ifs (Ways). Where the statement ends, the form is
--- what `form_at` answers.
+-- `reading::sizes::count_of` meets its contract. At each return `search` follows the code's tests through the definition's ifs
+-- (Ways). Where the statement ends, the form is what `form_at` answers.
 -- Assumes nothing.
 use mathlib.Core.Path.{ap, _∙_}
 use Rattle.meaning.specs.Sizes.{countOf, formCount}

@@ -1,5 +1,5 @@
--- `reading::sizes::exceeds` meets its contract. With the word's kind and length, and what the callees answer,
--- put in, the result is the definition's own expression.
+-- `reading::sizes::exceeds` meets its contract. With the word's kind and length, and what the callees answer, put in, the
+-- result is the definition's own expression.
 -- Assumes nothing.
 use Rattle.meaning.specs.Sizes.{exceeds}
 use Rattle.reading.proofs.sizes.exceeds.Statement.{statement}

@@ -1,5 +1,5 @@
--- `reading::sizes::form_count` meets its contract. At each return `search` follows the code's tests through the
--- definition's ifs (Ways).
+-- `reading::sizes::form_count` meets its contract. At each return `search` follows the code's tests through the definition's
+-- ifs (Ways).
 -- Assumes nothing.
 use Rattle.meaning.specs.Sizes.{formCount}
 use Rattle.reading.proofs.Ways.{ways}

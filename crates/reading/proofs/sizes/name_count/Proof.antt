@@ -1,5 +1,5 @@
--- `reading::sizes::name_count` meets its contract. At each return `search` follows the code's tests through the
--- definition's ifs (Ways).
+-- `reading::sizes::name_count` meets its contract. At each return `search` follows the code's tests through the definition's
+-- ifs (Ways).
 -- Assumes nothing.
 use Rattle.meaning.specs.Sizes.{nameCount}
 use Rattle.reading.proofs.Ways.{ways}

@@ -1,5 +1,5 @@
--- `reading::sizes::own_count` meets its contract. At each return `search` follows the code's tests through
--- the definition's ifs (Ways); the second test is made of what `own_limit` answers.
+-- `reading::sizes::own_count` meets its contract. At each return `search` follows the code's tests through the definition's ifs
+-- (Ways); the second test is made of what `own_limit` answers.
 -- Assumes nothing.
 use borrow.Author.Needs.{needs}
 use borrow.Author.Tests.{eq-eqb, ne-eqb}

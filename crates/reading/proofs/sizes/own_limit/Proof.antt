@@ -1,5 +1,5 @@
--- `reading::sizes::own_limit` meets its contract. At each return `search` follows the code's tests through the
--- definition's ifs (Ways).
+-- `reading::sizes::own_limit` meets its contract. At each return `search` follows the code's tests through the definition's ifs
+-- (Ways).
 -- Assumes nothing.
 use Rattle.meaning.specs.Sizes.{ownLimit}
 use Rattle.reading.proofs.Ways.{ways}

@@ -1,5 +1,5 @@
--- `reading::sizes::past_total` meets its contract. Below `cNone` the first test of `pastTotal` holds and the second is
--- the result; elsewhere the first fails.
+-- `reading::sizes::past_total` meets its contract. Below `cNone` the first test of `pastTotal` holds and the second is the
+-- result; elsewhere the first fails.
 -- Assumes nothing.
 use borrow.Author.Needs.{needs}
 use borrow.Author.Tests.{lt-ltb, le-ltb}

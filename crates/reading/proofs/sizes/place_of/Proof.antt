@@ -1,5 +1,5 @@
--- `reading::sizes::place_of` meets its contract. The test is made of what `count_of` answers, at the kind of
--- the word; with that put in, `search` follows it through the definition's if (Ways).
+-- `reading::sizes::place_of` meets its contract. The test is made of what `count_of` answers, at the kind of the word; with
+-- that put in, `search` follows it through the definition's if (Ways).
 -- Assumes nothing.
 use Rattle.meaning.specs.Sizes.{placeOf}
 use Rattle.reading.proofs.Ways.{ways}

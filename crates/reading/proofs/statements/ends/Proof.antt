@@ -1,5 +1,5 @@
--- `reading::statements::ends` meets its contract. With what `starts` answers put in, the result is the
--- definition's own expression.
+-- `reading::statements::ends` meets its contract. With what `starts` answers put in, the result is the definition's own
+-- expression.
 -- Assumes nothing.
 use Rattle.meaning.specs.Statements.{ends}
 use Rattle.reading.proofs.statements.ends.Statement.{statement}

@@ -1,5 +1,5 @@
--- `reading::statements::form_at` meets its contract. At each return `search` follows the code's tests through the
--- definition's ifs (Ways).
+-- `reading::statements::form_at` meets its contract. At each return `search` follows the code's tests through the definition's
+-- ifs (Ways).
 -- Assumes nothing.
 use Rattle.meaning.specs.Statements.{formAt}
 use Rattle.reading.proofs.Ways.{ways}

@@ -1,5 +1,5 @@
--- `reading::statements::of_e` meets its contract. With what `in_e` and `starts` answer put in, the result
--- is the definition's own expression.
+-- `reading::statements::of_e` meets its contract. With what `in_e` and `starts` answer put in, the result is the definition's
+-- own expression.
 -- Assumes nothing.
 use Rattle.meaning.specs.Statements.{ofE}
 use Rattle.reading.proofs.statements.of_e.Statement.{statement}

@@ -1,5 +1,5 @@
--- `reading::statements::says` meets its contract. With what its callees answer put in, the result is the
--- definition's own expression.
+-- `reading::statements::says` meets its contract. With what its callees answer put in, the result is the definition's own
+-- expression.
 -- Assumes nothing.
 use Rattle.meaning.specs.Statements.{says}
 use Rattle.reading.proofs.statements.says.Statement.{statement}

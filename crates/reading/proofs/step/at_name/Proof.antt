@@ -1,10 +1,10 @@
--- `reading::statements::at_name` meets its contract. At a known kind `stepS` computes to two ifs, and at
--- each return `search` follows the code's tests through them (Ways).
+-- `reading::step::at_name` meets its contract. At a known kind `stepS` computes to two ifs, and at each return `search` follows
+-- the code's tests through them (Ways).
 -- Assumes nothing.
 use Rattle.meaning.specs.Statements.{stepS}
 use Rattle.reading.proofs.Ways.{ways}
-use Rattle.reading.proofs.statements.at_name.Statement.{statement}
-use Rattle.reading.proofs.statements.at_name.Tie as tie
+use Rattle.reading.proofs.step.at_name.Statement.{statement}
+use Rattle.reading.proofs.step.at_name.Tie as tie
 
 pub at-name-spec : {M : Type 1} → statement M
 unfolding stepS

@@ -1,10 +1,10 @@
--- `reading::statements::at_open` meets its contract. At a known kind `stepS` computes to one if, and at
--- each return `search` follows the code's test through it (Ways).
+-- `reading::step::at_open` meets its contract. At a known kind `stepS` computes to one if, and at each return `search` follows
+-- the code's test through it (Ways).
 -- Assumes nothing.
 use Rattle.meaning.specs.Statements.{stepS}
 use Rattle.reading.proofs.Ways.{ways}
-use Rattle.reading.proofs.statements.at_open.Statement.{statement}
-use Rattle.reading.proofs.statements.at_open.Tie as tie
+use Rattle.reading.proofs.step.at_open.Statement.{statement}
+use Rattle.reading.proofs.step.at_open.Tie as tie
 
 pub at-open-spec : {M : Type 1} → statement M
 unfolding stepS

@@ -1,11 +1,11 @@
--- `reading::statements::step` meets its contract. `step` goes by cases and not by ifs: each return rewrites it
--- by the tests that led there, and the callee ensures the rest.
+-- `reading::step::step` meets its contract. `step` goes by cases and not by ifs: each return rewrites it by the tests that led
+-- there, and the callee ensures the rest.
 -- Assumes nothing.
 use borrow.Author.Tests.{eq-eqb, ne-eqb}
 use Rattle.meaning.specs.Statements.{step}
 use Rattle.reading.proofs.Ways.{told}
-use Rattle.reading.proofs.statements.step.Statement.{statement}
-use Rattle.reading.proofs.statements.step.Tie as tie
+use Rattle.reading.proofs.step.step.Statement.{statement}
+use Rattle.reading.proofs.step.step.Tie as tie
 
 returns : tie.Need-returns
 unfolding step
