@@ -13,3 +13,6 @@ pub mod Grouping
 -- lists, and what a load rests on
 pub mod Lists
 pub mod Accepted
+-- the shape of the statements of a text of the grammar
+pub mod Seats
+pub mod Walks
