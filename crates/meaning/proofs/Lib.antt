@@ -16,3 +16,5 @@ pub mod Accepted
 -- the shape of the statements of a text of the grammar
 pub mod Seats
 pub mod Walks
+pub mod Shapes
+pub mod Branches

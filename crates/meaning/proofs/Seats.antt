@@ -11,7 +11,7 @@ use lib.Dec.{eqb, ltb}
 use Rattle.meaning.specs.Plain.{if_then_else_, within}
 use Rattle.meaning.specs.Keywords.{kName, kOpen, kClose, kLparen, kRparen, kSemi, kColon, kComma, kTilde, kStar, kMinus, kClass, kType, kTypealias, kTypebounds, kRole, kRoleTransition, kIf, kElse, kConstrain, kInherits, kAlias, kSelf, starts, isTypeRule, isAv, isTerm}
 use Rattle.meaning.specs.Statements.{Seen, moved, inE, comparing, step, stepE, stepS, behind, compared, saying, plain, minus, pFirst, pThird, pFourth, pClass, pLast, pTest, pUsers, pTypes, pBehind}
-use Rattle.meaning.proofs.Lists.{bool-cases, Among, here, there}
+use Rattle.meaning.proofs.Lists.{bool-cases, and-both, Among, here, there}
 
 -- ---- seats
 pub record Seat : Type 0 where
@@ -131,19 +131,51 @@ speaks w = starts w && not (eqb w kElse) && not (eqb w kClass || eqb w kRole)
 abbrev pub namesOnly : ℕ → ℕ → Bool
 namesOnly w p = due w p || eqb w kTypebounds || ((isAv w || isTypeRule w) && eqb p pClass)
 
+-- an `else` stands behind an `if`
+abbrev pub elseBehind : Seat → ℕ → Bool
+elseBehind a k = not (eqb k kElse) || a .ifs
+
+-- the keyword stays up to the end of the statement
+abbrev pub keywordStays : Seat → ℕ → Seat → Bool
+keywordStays a k b = if closes (a .kw) k then opens k || silent (b .kw) || eqb (a .kw) kIf else eqb (b .kw) (a .kw)
+
+-- names where nothing else may say something
+abbrev pub nameHere : Seat → ℕ → Bool
+nameHere a k = not (namesOnly (a .kw) (a .pos)) || eqb k kName || (not (within pTest pTypes (a .pos)) && not (saying k))
+
+-- and where they must stand
+abbrev pub duesMet : Seat → ℕ → Seat → Bool
+duesMet a k b =
+    if eqb k kSemi then paid (a .kw) (a .pos)
+    else starts k || not (paid (b .kw) (b .pos)) || paid (a .kw) (a .pos) || (due (a .kw) (a .pos) && speaks (a .kw) && saying k)
+
+-- in a constraint u1 .. t2 tell what they are compared with, and more follows
+abbrev pub tells : Seat → ℕ → Seat → Bool
+tells a k b = not (eqb (a .kw) kConstrain && eqb (a .pos) pTest && isTerm k) || eqb (b .pos) (compared k)
+
+abbrev pub goesOn : Seat → ℕ → Bool
+goesOn a k = not (eqb (a .kw) kConstrain && within pUsers pTypes (a .pos)) || not (starts k || eqb k kSemi)
+
 unfoldable pub proper : Seat → ℕ → Seat → Bool
-proper a k b =
-    -- an `else` stands behind an `if`
-    (not (eqb k kElse) || a .ifs)
-    -- the keyword stays up to the end of the statement
-    && (if closes (a .kw) k then opens k || silent (b .kw) || eqb (a .kw) kIf else eqb (b .kw) (a .kw))
-    -- names where they must stand
-    && (not (namesOnly (a .kw) (a .pos)) || eqb k kName || (not (within pTest pTypes (a .pos)) && not (saying k)))
-    && (if eqb k kSemi then paid (a .kw) (a .pos)
-    else starts k || not (paid (b .kw) (b .pos)) || paid (a .kw) (a .pos) || (due (a .kw) (a .pos) && speaks (a .kw) && saying k))
-    -- in a constraint u1 .. t2 tell what they are compared with, and more follows
-    && (not (eqb (a .kw) kConstrain && eqb (a .pos) pTest && isTerm k) || eqb (b .pos) (compared k))
-    && (not (eqb (a .kw) kConstrain && within pUsers pTypes (a .pos)) || not (starts k || eqb k kSemi))
+proper a k b = elseBehind a k && (keywordStays a k b && (nameHere a k && (duesMet a k b && (tells a k b && goesOn a k))))
+
+pub record Proper (a : Seat) (k : ℕ) (b : Seat) : Type 0 where
+  pub else-behind : elseBehind a k ≡ true
+  pub keyword-stays : keywordStays a k b ≡ true
+  pub name-here : nameHere a k ≡ true
+  pub dues-met : duesMet a k b ≡ true
+  pub told : tells a k b ≡ true
+  pub goes-on : goesOn a k ≡ true
+
+pub proper-is : (a : Seat) (k : ℕ) (b : Seat) → proper a k b ≡ true → Proper a k b
+unfolding proper
+proper-is a k b e =
+    let p = and-both (elseBehind a k) _ e in
+    let q = and-both (keywordStays a k b) _ (p .1) in
+    let r = and-both (nameHere a k) _ (q .1) in
+    let s = and-both (duesMet a k b) _ (r .1) in
+    let t = and-both (tells a k b) (goesOn a k) (s .1) in
+    record { else-behind = p .0; keyword-stays = q .0; name-here = r .0; dues-met = s .0; told = t .0; goes-on = t .1 }
 
 unfoldable pub Walks : Bool → Seen → List ℕ → Type 0
 Walks f st [] = Unit {0}
