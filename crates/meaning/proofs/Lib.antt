@@ -18,3 +18,6 @@ pub mod Seats
 pub mod Walks
 pub mod Shapes
 pub mod Branches
+-- the numbers of a policy are in their ranges
+pub mod Served
+pub mod Declared
