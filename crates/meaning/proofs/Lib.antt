@@ -21,3 +21,4 @@ pub mod Branches
 -- the numbers of a policy are in their ranges
 pub mod Served
 pub mod Declared
+pub mod Typed

@@ -129,7 +129,7 @@ speaks w = starts w && not (eqb w kElse) && not (eqb w kClass || eqb w kRole)
 
 -- nothing but names says something here
 abbrev pub namesOnly : ℕ → ℕ → Bool
-namesOnly w p = due w p || eqb w kTypebounds || ((isAv w || isTypeRule w) && eqb p pClass)
+namesOnly w p = eqb w kTypebounds || due w p || ((isAv w || isTypeRule w) && eqb p pClass)
 
 -- an `else` stands behind an `if`
 abbrev pub elseBehind : Seat → ℕ → Bool

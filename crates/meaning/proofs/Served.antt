@@ -41,13 +41,13 @@ known-served false p e = let z : _≡_ {A = ℕ} 0 1 = cc in absurd (omega arith
 
 -- Every name that must be of some kind is declared so.
 pub found : (ss : List Statement) → undeclared ss ≡ nowhere → {st : Statement} {i : Item} → Among st ss → Among i (st .items)
-    → eqb (i .kind) kName ≡ true → (k : ℕ) (u : List ℕ) → usesAt (st .form) (i .pos) ≡ k ∷ u → Found ss (k ∷ u) (i .text)
+    → eqb (i .kind) kName ≡ true → (f : ℕ) → st .form ≡ f → (k : ℕ) (u : List ℕ) → usesAt f (i .pos) ≡ k ∷ u → Found ss (k ∷ u) (i .text)
 unfolding undeclared unknown uses isServed serves
-found ss n {st = st} {i = i} m l e k u q =
+found ss n {st = st} {i = i} m l e f h k u q =
     let ds = declared ss in
     let a = known-served (isServed ds (uses st i) (i .text)) (i .at)
     (first-nowhere (unknown ds st) l (first-nowhere (λ st. firstAt (unknown ds st) (st .items)) m n)) in
-    let r = any-among (serves (k ∷ u) (i .text)) ds (rw (e, q, uses) at a) in
+    let r = any-among (serves (k ∷ u) (i .text)) ds (rw (e, h, q, uses) at a) in
     let b = and-both (any (eqb (r .0 .kind)) (k ∷ u)) (sameBytes (i .text) (r .0 .text)) (r .2) in
     record { decl = r .0; among = r .1; kind = b .0; reads = sym (same-bytes (i .text) (r .0 .text) (b .1)) }
 
