@@ -22,3 +22,4 @@ pub mod Branches
 pub mod Served
 pub mod Declared
 pub mod Typed
+pub mod Pushed
