@@ -97,7 +97,7 @@ keep-append : {A : Type 0} (p : A → Bool) (l r : List A) → keep p (l ++ r) �
 keep-append p [] r = refl
 keep-append p (x ∷ l) r = bool-cases (p x) (λ e. rw (e, keep-append p l r)) (λ e. rw (e, keep-append p l r))
 
-each-append : {A B : Type 0} (f : A → B) (l r : List A) → each f (l ++ r) ≡ each f l ++ each f r
+pub each-append : {A B : Type 0} (f : A → B) (l r : List A) → each f (l ++ r) ≡ each f l ++ each f r
 each-append f [] r = refl
 each-append f (x ∷ l) r = ap (f x ∷_) (each-append f l r)
 

@@ -23,3 +23,4 @@ pub mod Served
 pub mod Declared
 pub mod Typed
 pub mod Pushed
+pub mod Counts
