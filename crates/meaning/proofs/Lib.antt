@@ -21,6 +21,9 @@ pub mod Branches
 -- the numbers of a policy are in their ranges
 pub mod Served
 pub mod Declared
-pub mod Typed
+pub mod Aliased
 pub mod Pushed
-pub mod Counts
+pub mod Listed
+pub mod Comparisons
+pub mod Ranges
+pub mod Ruled

@@ -1,8 +1,10 @@
 -- The types, roles, users and booleans of a policy are those that the text names, in that order: by their names (`types-named` and so
--- on), so also by their counts (`types-counted` and so on). A class of a policy is just a class of the names.
+-- on), so also by their counts (`types-counted` and so on). And every set
+-- has as many entries as there are names that it is of (`set-sized`).
 -- Assumes nothing.
 use Prim.Native.Nat.{ℕ, _+_}
 use mathlib.Core.Path.{_≡_, refl, sym, ap, _∙_}
+use mathlib.Core.Bool.{Bool}
 use mathlib.Core.List.{List, [], _∷_, _++_}
 use lib.ListN.{length}
 use Rattle.meaning.specs.Plain.{each, joined}
@@ -12,7 +14,7 @@ use Rattle.meaning.specs.Names.{declared, objectR}
 use Rattle.meaning.specs.Permissions.{Name, itemName}
 use Rattle.meaning.specs.Sets.{Names, namesOf, nameOf, ofKind}
 use Rattle.meaning.specs.Policy.{TypeEntry, Role, User, Switch, Policy}
-use Rattle.meaning.specs.Rules.{Bound, typeEntries, typesIn, roleOf, objectRole, rolesIn, userOf, switchOf, policyOf}
+use Rattle.meaning.specs.Rules.{setOf, typesOf, rolesOf, Bound, typeEntries, typesIn, roleOf, objectRole, rolesIn, userOf, switchOf, policyOf}
 use Rattle.meaning.proofs.Lists.{length-each}
 use Rattle.meaning.proofs.Declared.{each-append, users-at-first, bools-at-first}
 
@@ -78,3 +80,16 @@ module _ (ss : List Statement) where
 
   pub bools-counted : length (p .bools) ≡ length (n .bools)
   bools-counted = counted _ (p .bools) bools-named
+
+-- ---- a set has an entry for each name
+pub set-sized : (q : List ℕ → Bool) (ns : List Name) → length (setOf q ns) ≡ length ns
+unfolding setOf
+set-sized q ns = length-each _ ns
+
+pub types-sized : (n : Names) (is : List Item) → length (typesOf n is) ≡ length (n .types)
+unfolding typesOf
+types-sized n is = set-sized _ (n .types)
+
+pub roles-sized : (n : Names) (is : List Item) → length (rolesOf n is) ≡ length (n .roles)
+unfolding rolesOf
+roles-sized n is = set-sized _ (n .roles)
