@@ -27,3 +27,4 @@ pub mod Listed
 pub mod Comparisons
 pub mod Ranges
 pub mod Ruled
+pub mod InRange

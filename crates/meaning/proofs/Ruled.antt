@@ -69,7 +69,7 @@ module _ (s : List ℕ) (c : NoEarlier s) {st : Statement} (m : Among st (statem
   class-named d {i = i} k = among-any _ k (rw (← (class-reads (statementsIn s) (i .text) d (class-found k))) (bytes-same (i .text)))
 
 -- the permissions of a class that is named
-perms-sized : (n : Names) (st : Statement) (k : ℕ) (d : Class) → k < length (n .classes)
+pub perms-sized : (n : Names) (st : Statement) (k : ℕ) (d : Class) → k < length (n .classes)
     → namedIn (classPart st) (getD (n .classes) k d .name .text) ≡ true → length (getD (permSets n st) k []) ≡ length (getD (n .classes) k d .perms)
 unfolding permSets permsFor
 perms-sized n st k d h e = rw (getD-each (permsFor st) (n .classes) k d [] h, e, permsFor) (set-sized _ (getD (n .classes) k d .perms))
