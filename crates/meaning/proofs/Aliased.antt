@@ -2,24 +2,24 @@
 -- that of a type that is declared (`alias-typed`). So the bounds of a text are between types (`bounds-in-range`).
 -- The first word of a part where a name must stand is a name (`first-name`): what there is to say of it then is said of that name.
 -- Assumes nothing.
-use Prim.Native.Nat.{ℕ, _≤_, _<_}
-use native.Mathlib.Omega.{arith}
-use mathlib.Core.Path.{_≡_, refl, sym, ap, _∙_, subst}
-use mathlib.Core.Bool.{Bool, true, false, not, _&&_, _||_, false≢true}
-use mathlib.Core.List.{List, [], _∷_, _++_}
-use borrow.Author.Tests.{eqb-true, eqb-false, eq-eqb, leb-true}
-use lib.Dec.{eqb, leb}
+use Prim.Native.Nat.{ℕ, _<_}
+use mathlib.Core.Path.{_≡_, refl, sym, ap, _∙_}
+use mathlib.Core.Bool.{Bool, true, false, _||_, false≢true}
+use mathlib.Core.List.{List, [], _∷_}
+use borrow.Author.Tests.{eqb-true}
+use lib.Dec.{eqb}
 use lib.ListN.{length}
-use Rattle.meaning.specs.Plain.{if_then_else_, within, any, keep, each, joined, sameBytes}
+use Rattle.meaning.specs.Plain.{joined, sameBytes}
 use Rattle.meaning.specs.Keywords.{kName, kType, kTypealias, kTypebounds}
 use Rattle.meaning.specs.Statements.{Item, Statement, part, namesAt, ofForm, pFirst, pSecond, pThird}
-use Rattle.meaning.specs.Names.{firstText, declared, usesAt, aType, dType, dAlias}
-use Rattle.meaning.specs.Sets.{Alias, Names, namesOf, aliasesBy, typeNamed, ofKind}
-use Rattle.meaning.specs.Rules.{numberOf, typeNumber, Bound, boundsBy, boundsOf}
-use Rattle.meaning.proofs.Lists.{bool-cases, and-both, or-cases, same-bytes, bytes-same, Among, here, there, keep-among, among-keep, each-among, joined-among}
+use Rattle.meaning.specs.Names.{firstText, usesAt, aType, dType, dAlias}
+use Rattle.meaning.specs.Sets.{Alias, namesOf, aliasesBy, typeNamed}
+use Rattle.meaning.specs.Rules.{typeNumber, Bound, boundsBy, boundsOf}
+use Rattle.meaning.proofs.Lists.{bool-cases, or-cases, bytes-same, Among, here, there, keep-among, among-keep, each-among, joined-among}
 use Rattle.meaning.proofs.Accepted.{NoEarlier, statementsIn, namesIn}
 use Rattle.meaning.proofs.Seats.{due, paid, namesOnly}
-use Rattle.meaning.proofs.Shapes.{plainForm, Shape, shape}
+use Rattle.meaning.proofs.Forms.{plainForm}
+use Rattle.meaning.proofs.Shapes.{Shape, shape}
 use Rattle.meaning.proofs.Served.{Found, found, named-below}
 use Rattle.meaning.proofs.Declared.{alias-among, type-found}
 
@@ -56,7 +56,8 @@ module _ (s : List ℕ) (c : NoEarlier s) {st : Statement} (m : Among st (statem
       let o = shape-as .owed n in
       let j = first-of l (h (o .0) (o .1) (o .2)) in
       let k = g (j .0) (j .1) in
-      record { item = j .0; among = k .0; place = k .1; name = all-names (j .0) (k .0) (middle (eqb f kTypebounds) (due f (j .0 .pos)) _ (k .1)); reads = j .2 }
+      let a = all-names (j .0) (k .0) (middle (eqb f kTypebounds) (due f (j .0 .pos)) _ (k .1)) in
+      record { item = j .0; among = k .0; place = k .1; name = a; reads = j .2 }
 
   -- the same of the words at a position
   pub first-at : paid f pFirst ≡ false → (p : ℕ) → ((q : ℕ) → due f q ≡ true → eqb q p ≡ true) → due f p ≡ true → FirstName f st (part p st)
@@ -137,6 +138,7 @@ module _ (s : List ℕ) (c : NoEarlier s) where
       let (i, mi, e) = each-among _ (part pSecond st) mb in
       let l = keep-among (λ i. eqb (i .pos) pSecond) (st .items) mi .0 in
       let r = first-at s c (k .0) kTypebounds q refl refl pFirst (λ q d. left-of _ d) refl in
-      let child = type-below (i .text) (found ss (c .known) (k .0) l (all-names s c (k .0) kTypebounds q refl i l refl) kTypebounds q dType (dAlias ∷ []) refl) in
+      let a = all-names s c (k .0) kTypebounds q refl i l refl in
+      let child = type-below (i .text) (found ss (c .known) (k .0) l a kTypebounds q dType (dAlias ∷ []) refl) in
       let parent = type-below (r .item .text) (found ss (c .known) (k .0) (r .among) (r .name) kTypebounds q dType (dAlias ∷ []) refl) in
       rw e (child, rw (r .reads) parent)

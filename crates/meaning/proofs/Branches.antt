@@ -2,7 +2,7 @@
 -- ifs (`branch-below`). An if has the number of those begun before it; what comes behind it finds it ended, so that it is one of the
 -- statements of its form; and no `else` comes before an if.
 -- Assumes nothing.
-use Prim.Native.Nat.{ℕ, zero, suc, _+_, _-_, _≤_, _<_}
+use Prim.Native.Nat.{ℕ, suc, _+_, _-_, _≤_, _<_}
 use native.Mathlib.Omega.{arith}
 use mathlib.Core.Path.{_≡_, refl, sym, _∙_}
 use mathlib.Core.Bool.{Bool, true, false, not, _&&_, _||_, false≢true}
@@ -10,13 +10,13 @@ use mathlib.Core.List.{List, [], _∷_}
 use borrow.Author.Tests.{eqb-true}
 use lib.Dec.{eqb}
 use lib.ListN.{length}
-use Rattle.meaning.specs.Plain.{if_then_else_, keep}
-use Rattle.meaning.specs.Keywords.{kClose, kCommon, kIf, kElse, starts}
+use Rattle.meaning.specs.Plain.{if_then_else_}
+use Rattle.meaning.specs.Keywords.{kClose, kIf, kElse}
 use Rattle.meaning.specs.Words.{Word, wordsOf}
 use Rattle.meaning.specs.Statements.{Seen, outside, step, Branch, always, whenTrue, whenFalse, Statement, statementsOf, ends, formAt, branchAt, Gathered, gather, ofForm, says}
 use Rattle.meaning.proofs.Lists.{bool-cases, Among, here, there}
 use Rattle.meaning.proofs.Reading.{kinds}
-use Rattle.meaning.proofs.Seats.{seat, begunIf, opens, Proper, proper-is, Walks}
+use Rattle.meaning.proofs.Seats.{begunIf, opens, proper-is, Walks}
 use Rattle.meaning.proofs.Shapes.{gathered, keyword-on, opens-ends, text-walks}
 use Rattle.meaning.proofs.Accepted.{NoEarlier, statementsIn}
 

@@ -3,10 +3,10 @@
 -- The words behind u1 .. t2 stand at the position of what they are compared with (`Told` of Shapes), and `readTests` goes by that.
 -- Assumes nothing.
 use Prim.Native.Nat.{ℕ}
-use native.Mathlib.Omega.{arith}
 use mathlib.Core.Path.{_≡_, refl, sym, ap, _∙_}
 use mathlib.Core.Bool.{Bool, true, false, _||_, false≢true}
 use mathlib.Core.List.{List, [], _∷_}
+use borrow.Author.Tests.{eqb-true}
 use lib.Dec.{eqb}
 use lib.ListN.{length}
 use Rattle.meaning.specs.Plain.{if_then_else_, within}
@@ -17,7 +17,7 @@ use Rattle.meaning.specs.Expressions.{Token, leaf, sign, negation, lpar,
 use Rattle.meaning.specs.Policy.{Set, Test}
 use Rattle.meaning.specs.Rules.{setOf, typesOf, rolesOf, twoSided, markToken, comparedSet, Read, behindTest, testOf, readTests}
 use Rattle.meaning.proofs.Lists.{bool-cases, Among, here, there}
-use Rattle.meaning.proofs.Shapes.{Heads, Told}
+use Rattle.meaning.proofs.Shapes.{Heads, Told, compared-is}
 use Rattle.meaning.proofs.Listed.{set-sized, types-sized, roles-sized}
 
 -- how many there are of what u1 .. t2 are
@@ -63,13 +63,8 @@ set-fits n k is = by (within kU1 kU2 k) (within kR1 kR2 k)
 
 -- ---- a comparison, from the words behind u1 .. t2
 compared-past : (k : ℕ) → eqb (compared k) pTest ≡ false
-unfolding compared
-compared-past k = by (within kU1 kU2 k) (within kR1 kR2 k)
-  where
-    by : (a b : Bool) → eqb (if a then pUsers else if b then pRoles else pTypes) pTest ≡ false
-    by true b = refl
-    by false true = refl
-    by false false = refl
+compared-past k =
+    bool-cases (eqb (compared k) pTest) (λ q. absurd (false≢true (rw (eqb-true (compared k) pTest q) at (compared-is k)))) (λ q. q)
 
 heads-read : (n : Names) (k : ℕ) (is : List Item) → Heads (compared k) is → readTests n is .pos ≡ compared k
 unfolding Heads readTests
@@ -105,5 +100,6 @@ module _ (n : Names) where
       (λ k. one-more (leaf (testOf n (i .kind) r)) (r .tokens) (rw (p, k, readTests) at m)
       (λ q. let z : e ≡ testOf n (i .kind) r = cc in rw z (test-of (i .kind) r k (heads-read n (i .kind) is (t .0 p k))))
       (λ m. test-fits is (t .1) m))
-      (λ k. one-more (markToken (i .kind)) (r .tokens) (rw (p, k, readTests) at m) (λ q. absurd (mark-none (i .kind) q)) (λ m. test-fits is (t .1) m)))
+      (λ k. one-more (markToken (i .kind)) (r .tokens) (rw (p, k, readTests) at m) (λ q. absurd (mark-none (i .kind) q))
+      (λ m. test-fits is (t .1) m)))
       (λ p. test-fits is (t .1) (rw (p, readTests) at m))

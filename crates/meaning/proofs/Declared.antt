@@ -13,7 +13,7 @@ use Rattle.meaning.specs.Plain.{if_then_else_, within, any, keep, each, 
 use Rattle.meaning.specs.Keywords.{kName, kClass, kCommon, kAttribute, kType, kTypealias, kBool, kRole, kUser, kPerms}
 use Rattle.meaning.specs.Statements.{Item, Statement, part, namesAt, ofForm, pFirst, pSecond, pThird, pFourth}
 use Rattle.meaning.specs.Names.{Decl, declaresAt, declares, declOf, objectR, declaredBy, declared, firstText, dNone, dType, dAttribute, dAlias, dRole, dUser, dClass, dCommon, dBool, dPerm}
-use Rattle.meaning.specs.Permissions.{Name, itemName}
+use Rattle.meaning.specs.Permissions.{itemName}
 use Rattle.meaning.specs.Sets.{Alias, nameOf, ofKind, aliasesBy}
 use Rattle.meaning.proofs.Lists.{bool-cases, and-both, both-and, same-test, Among, here, there, keep-among, among-keep, each-among, among-each, joined-among, among-joined}
 use Rattle.meaning.proofs.Served.{Found}
@@ -76,7 +76,8 @@ alias-among ss (there m) q =
     let (i, mi, e) = each-among (declOf st) _ mb in
     let n = declares-name st i dAlias refl (rw e at q) in
     let f = and-both (eqb (st .form) kType || eqb (st .form) kTypealias) (eqb (i .pos) pThird) (just _ (n .1)) in
-    let k = among-keep (λ i. eqb (i .pos) pThird && eqb (i .kind) kName) (keep-among _ (st .items) mi .0) (both-and _ _ (f .1) (n .0)) in
+    let k : Among i (namesAt pThird st) =
+    among-keep (λ i. eqb (i .pos) pThird && eqb (i .kind) kName) (keep-among _ (st .items) mi .0) (both-and _ _ (f .1) (n .0)) in
     (aliasIn st i, among-joined aliasesBy mst (rw (f .0, aliasesBy) (among-each (aliasIn st) k)), sym (ap (λ d. d .text) e))
 
 -- What a `type` names is a type.
@@ -122,9 +123,11 @@ module _ (k d : ℕ) (just-there : (f p : ℕ) → eqb (declaresAt f p) d ≡ (e
       (λ e. let w : within dType dBool (declares st i) ≡ true = rw (eqb-true (declares st i) d e) counted in rw (w, e, items-as st l))
       (λ e. bool-cases (within dType dBool (declares st i)) (λ q. rw (q, e, items-as st l)) (λ q. rw (q, e, items-as st l)))
 
-  declares-is : (st : Statement) (i : Item) → eqb (declares st i) d ≡ (eqb (i .kind) kName && (eqb (st .form) k && eqb (i .pos) pFirst))
+  declares-is : (st : Statement) (i : Item) → eqb (declares st i) d ≡ (eqb (st .form) k && (eqb (i .pos) pFirst && eqb (i .kind) kName))
   unfolding declares
-  declares-is st i = bool-cases (eqb (i .kind) kName) (λ q. rw (q, declares) (just-there (st .form) (i .pos))) (λ q. rw (q, declares) some)
+  declares-is st i =
+      bool-cases (eqb (i .kind) kName) (λ q. rw (q, declares, and-comm (eqb (i .pos) pFirst) true) (just-there (st .form) (i .pos)))
+      (λ q. rw (q, declares, and-comm (eqb (i .pos) pFirst) false, and-comm (eqb (st .form) k) false) some)
 
   one-statement : (st : Statement) → each nameOf (keep (λ e. eqb (e .kind) d) (declaredBy st))
       ≡ (if eqb (st .form) k then each itemName (namesAt pFirst st) else [])
@@ -132,8 +135,8 @@ module _ (k d : ℕ) (just-there : (f p : ℕ) → eqb (declaresAt f p) d ≡ (e
   one-statement st =
       items-as st (st .items)
       ∙ bool-cases (eqb (st .form) k)
-      (λ e. rw (e, keep-same _ (λ i. eqb (i .pos) pFirst && eqb (i .kind) kName) (λ i. declares-is st i ∙ rw e (and-comm (eqb (i .kind) kName) (eqb (i .pos) pFirst))) (st .items)))
-      (λ e. rw (e, keep-none (λ i. eqb (declares st i) d) (λ i. declares-is st i ∙ rw e (and-comm (eqb (i .kind) kName) false)) (st .items)))
+      (λ e. rw (e, keep-same _ (λ i. eqb (i .pos) pFirst && eqb (i .kind) kName) (λ i. declares-is st i ∙ rw e) (st .items)))
+      (λ e. rw (e, keep-none (λ i. eqb (declares st i) d) (λ i. declares-is st i ∙ rw e) (st .items)))
 
   of-statements : (ss : List Statement) → each nameOf (keep (λ e. eqb (e .kind) d) (joined declaredBy ss))
       ≡ joined (λ st. each itemName (namesAt pFirst st)) (ofForm k ss)

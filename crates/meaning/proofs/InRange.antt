@@ -1,28 +1,29 @@
 -- Every number that the policy of a text with no earlier refusal holds is in its range, and every set has as many entries as there
--- are names that it is of (`in-range`). The rows of the rules are in Ruled; the rest is here, kind by kind, in the order of the record.
+-- are names that it is of (`in-range`; of an accepted load `accepted-in-range`). The rows of the rules are in Ruled; the rest is here, kind by kind, in the order of the record.
 -- Assumes nothing.
 use Prim.Native.Nat.{ℕ, _+_, _<_}
 use native.Mathlib.Omega.{arith}
 use mathlib.Core.Path.{_≡_, refl, sym, ap, _∙_}
 use mathlib.Core.Logic.{_⊎_, inl, inr}
-use mathlib.Core.Bool.{Bool, true, false, _||_}
+use mathlib.Core.Bool.{Bool, true, _||_}
 use mathlib.Core.List.{List, [], _∷_, _++_}
 use borrow.Author.Tests.{eqb-true}
 use lib.Dec.{eqb}
 use lib.ListN.{length, getD}
-use Rattle.meaning.specs.Plain.{each, joined}
 use Rattle.meaning.specs.Keywords.{kName, kRoleTransition, kRoleAllow, kIf, kUser, kConstrain}
-use Rattle.meaning.specs.Statements.{Item, Statement, part, namesAt, ofForm, pFirst, pSecond, pThird, pLast, pTest}
+use Rattle.meaning.specs.Statements.{Item, Statement, part, namesAt, ofForm, pFirst, pThird, pLast, pTest}
 use Rattle.meaning.specs.Names.{firstText, usesAt, dType, dRole, dBool}
 use Rattle.meaning.specs.Permissions.{Name, Class, classPart}
 use Rattle.meaning.specs.Sets.{Names, namesOf, namedIn}
 use Rattle.meaning.specs.Expressions.{Code, push, leaf}
-use Rattle.meaning.specs.Policy.{Parent, parent, TypeEntry, AliasEntry, Role, User, RoleAllow, RoleTransition, Test, Constrain, Policy}
-use Rattle.meaning.specs.Rules.{numberOf, aliasEntry, permsFor, permSets, roleAllowOf, roleTransitionOf, roleOf, objectRole, rolesIn, userOf, Bound, boundsOf, parentIn, typeEntries, typesIn, markToken, boolToken, ifOf, readTests, constraintWords, constrainOf, policyOf}
+use Rattle.meaning.specs.Policy.{parent, TypeEntry, AliasEntry, Role, User, RoleAllow, RoleTransition, Test, Constrain, Policy}
+use Rattle.meaning.specs.Rules.{numberOf, aliasEntry, permsFor, permSets, roleAllowOf, roleTransitionOf, roleOf, objectRole, rolesIn, userOf, Bound, boundsOf, parentIn, typeEntries, typesIn, boolToken, ifOf, constraintWords, constrainOf, policyOf}
 use Rattle.meaning.specs.Contexts.{nameless, classAt}
+use Rattle.meaning.specs.Refusals.{accepted}
+use Rattle.meaning.specs.Load.{load}
 use Rattle.meaning.proofs.Lists.{bool-cases, or-cases, Among, here, there, among-left, among-right, append-among, keep-among, among-keep, each-among, joined-among, getD-each, length-each}
 use Rattle.meaning.proofs.Texts.{either-right}
-use Rattle.meaning.proofs.Accepted.{NoEarlier, statementsIn, namesIn, policyIn}
+use Rattle.meaning.proofs.Accepted.{NoEarlier, statementsIn, namesIn, policyIn, stands}
 use Rattle.meaning.proofs.Shapes.{shape}
 use Rattle.meaning.proofs.Served.{found, named-below}
 use Rattle.meaning.proofs.Aliased.{first-name, alias-typed, bounds-in-range}
@@ -135,7 +136,8 @@ module _ (s : List ℕ) (c : NoEarlier s) where
       rw e (roles-sized n _ ∙ sym (roles-counted ss))
 
   -- an operand of a condition is a boolean
-  bool-in : (st : Statement) → Among st ss → st .form ≡ kIf → {x : ℕ} (i : Item) → Among i (st .items) → leaf x ≡ boolToken n i → x < length (n .bools)
+  bool-in : (st : Statement) → Among st ss → st .form ≡ kIf → {x : ℕ} (i : Item) → Among i (st .items) → leaf x ≡ boolToken n i
+      → x < length (n .bools)
   unfolding boolToken usesAt namesOf
   bool-in st m f {x = x} i l e =
       bool-cases (eqb (i .kind) kName)
@@ -187,3 +189,7 @@ module _ (s : List ℕ) (c : NoEarlier s) where
         ifs = ifs-in;
         constrains = constrains-in;
       }
+
+-- Every number that the policy of an accepted text holds is in its range.
+pub accepted-in-range : (s : List ℕ) → load s .number ≡ accepted → InRange (load s .policy)
+accepted-in-range s e = let t = stands s e in rw (t .policy) (in-range s (t .earlier))

@@ -16,6 +16,7 @@ pub mod Accepted
 -- the shape of the statements of a text of the grammar
 pub mod Seats
 pub mod Walks
+pub mod Forms
 pub mod Shapes
 pub mod Branches
 -- the numbers of a policy are in their ranges

@@ -5,7 +5,7 @@
 use Prim.Native.Nat.{ℕ, _+_}
 use mathlib.Core.Path.{_≡_, refl, sym, ap, _∙_}
 use mathlib.Core.Bool.{Bool}
-use mathlib.Core.List.{List, [], _∷_, _++_}
+use mathlib.Core.List.{List, [], _∷_}
 use lib.ListN.{length}
 use Rattle.meaning.specs.Plain.{each, joined}
 use Rattle.meaning.specs.Keywords.{kBool, kUser}
@@ -13,7 +13,7 @@ use Rattle.meaning.specs.Statements.{Item, Statement, namesAt, ofForm, p
 use Rattle.meaning.specs.Names.{declared, objectR}
 use Rattle.meaning.specs.Permissions.{Name, itemName}
 use Rattle.meaning.specs.Sets.{Names, namesOf, nameOf, ofKind}
-use Rattle.meaning.specs.Policy.{TypeEntry, Role, User, Switch, Policy}
+use Rattle.meaning.specs.Policy.{Policy}
 use Rattle.meaning.specs.Rules.{setOf, typesOf, rolesOf, Bound, typeEntries, typesIn, roleOf, objectRole, rolesIn, userOf, switchOf, policyOf}
 use Rattle.meaning.proofs.Lists.{length-each}
 use Rattle.meaning.proofs.Declared.{each-append, users-at-first, bools-at-first}

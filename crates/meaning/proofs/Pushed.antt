@@ -3,14 +3,14 @@
 -- Assumes nothing.
 use Prim.Native.Nat.{ℕ}
 use native.Mathlib.Omega.{arith}
-use mathlib.Core.Path.{_≡_, refl, sym, ap, _∙_}
+use mathlib.Core.Path.{_≡_, refl, ap}
 use mathlib.Core.Bool.{Bool, true, false, not}
-use mathlib.Core.List.{List, [], _∷_, _++_}
+use mathlib.Core.List.{List, [], _∷_}
 use lib.Dec.{leb}
 use lib.ListN.{getD}
 use Rattle.meaning.specs.Plain.{if_then_else_}
 use Rattle.meaning.specs.Statements.{Branch, always, whenTrue, whenFalse}
-use Rattle.meaning.specs.Expressions.{Sign, binds, bindsNot, loosest, Token, leaf, sign, negation, lpar, rpar, Code, push, does, negates, Waiting, wait, waitNot, paren, below, Popped, popped, postfix}
+use Rattle.meaning.specs.Expressions.{Sign, binds, bindsNot, loosest, Token, leaf, sign, negation, lpar, rpar, Code, push, does, negates, Waiting, wait, waitNot, paren, Popped, popped, postfix}
 use Rattle.meaning.specs.Policy.{Switch, Policy}
 use Rattle.meaning.specs.Access.{isOn, ifHolds, inForce}
 use Rattle.meaning.specs.Questions.{withBools}

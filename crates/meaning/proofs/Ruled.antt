@@ -4,28 +4,27 @@
 -- what has to stand there stands there by the statement's shape (Shapes).
 -- Assumes nothing.
 use Prim.Native.Nat.{ℕ, _<_}
-use native.Mathlib.Omega.{arith}
-use mathlib.Core.Path.{_≡_, refl, sym, ap, _∙_, subst}
-use mathlib.Core.Bool.{Bool, true, false, _&&_, _||_, false≢true}
+use mathlib.Core.Path.{_≡_, refl, sym, _∙_}
+use mathlib.Core.Bool.{Bool, true, false, _||_, false≢true}
 use mathlib.Core.List.{List, [], _∷_}
-use borrow.Author.Tests.{eqb-true, eqb-false, leb-true}
-use lib.Dec.{eqb, leb}
+use borrow.Author.Tests.{eqb-true}
+use lib.Dec.{eqb}
 use lib.ListN.{length, getD}
-use Rattle.meaning.specs.Plain.{if_then_else_, within, keep, each, joined, sameBytes}
+use Rattle.meaning.specs.Plain.{keep}
 use Rattle.meaning.specs.Keywords.{kType, kTypealias, kTypebounds, kRoleTransition, kIf, kConstrain, isTypeRule, isAv}
 use Rattle.meaning.specs.Statements.{Item, Statement, part, ofForm, pFirst, pSecond, pClass, pLast}
 use Rattle.meaning.specs.Names.{firstText, usesAt, aType, dType, dAlias, dClass}
 use Rattle.meaning.specs.Permissions.{Class, classPart}
 use Rattle.meaning.specs.Sets.{Names, namesOf, namedIn}
-use Rattle.meaning.specs.Policy.{Set, Row, TypeRow, Policy}
-use Rattle.meaning.specs.Rules.{classNumber, typeNumber, setOf, typesOf, permsFor, permSets, classNumbers, ruleOf, avStatements, rulesOf, rowOf, rowsOf, typeRowsOf, ifOf, policyOf}
+use Rattle.meaning.specs.Policy.{Row, TypeRow, Policy}
+use Rattle.meaning.specs.Rules.{classNumber, typeNumber, permsFor, permSets, classNumbers, ruleOf, avStatements, rulesOf, rowOf, rowsOf, typeRowsOf, ifOf, policyOf}
 use Rattle.meaning.specs.Contexts.{nameless, classAt}
-use Rattle.meaning.proofs.Lists.{bool-cases, and-both, both-and, bytes-same, Among, here, there, keep-among, each-among, joined-among, among-any, getD-each, length-each}
+use Rattle.meaning.proofs.Lists.{bool-cases, both-and, bytes-same, Among, keep-among, each-among, joined-among, among-any, getD-each, length-each}
 use Rattle.meaning.proofs.Texts.{either-right}
 use Rattle.meaning.proofs.Accepted.{NoEarlier, statementsIn, namesIn, policyIn}
-use Rattle.meaning.proofs.Seats.{due, paid, namesOnly}
-use Rattle.meaning.proofs.Shapes.{plainForm}
-use Rattle.meaning.proofs.Branches.{Below, branch-below}
+use Rattle.meaning.proofs.Seats.{due, paid}
+use Rattle.meaning.proofs.Forms.{plainForm}
+use Rattle.meaning.proofs.Branches.{branch-below}
 use Rattle.meaning.proofs.Served.{Found, found, class-below, class-reads}
 use Rattle.meaning.proofs.Aliased.{all-names, first-at, type-below}
 use Rattle.meaning.proofs.Listed.{types-counted, set-sized, types-sized}

@@ -14,6 +14,7 @@ use Rattle.meaning.specs.Statements.{Seen, moved, inE, comparing, step, 
 use Rattle.meaning.proofs.Lists.{bool-cases, and-both, Among, here, there}
 
 -- ---- seats
+-- `ifs`: an if has begun
 pub record Seat : Type 0 where
   pub kw : ℕ
   pub pos : ℕ
@@ -75,7 +76,9 @@ module _ (f : Bool) (st : Seen) (k : ℕ) where
       (bool-cases (eqb k kMinus) (λ e. rw e (alike refl refl refl)) (λ e. rw e
       (bool-cases (eqb k kTilde) (λ e. rw e (alike refl refl refl)) (λ e. rw e
       (bool-cases (eqb k kName || eqb k kSelf || eqb k kStar)
-      (λ e. rw e (bool-cases (st .inside) (λ e. rw e (bool-cases (eqb (st .sign) minus) (λ e. rw e (alike refl refl refl)) (λ e. rw e (alike refl refl refl)))) (λ e. rw e (alike refl refl refl))))
+      (λ e. rw e (bool-cases (st .inside)
+      (λ e. rw e (bool-cases (eqb (st .sign) minus) (λ e. rw e (alike refl refl refl)) (λ e. rw e (alike refl refl refl))))
+      (λ e. rw e (alike refl refl refl))))
       (λ e. rw e (alike refl refl refl))))))))))))))))))
 
   step-alike : Alike (step st k) (step (seen (eqb (st .depth) 0) (seat f st)) k)
@@ -177,6 +180,7 @@ proper-is a k b e =
     let t = and-both (tells a k b) (goesOn a k) (s .1) in
     record { else-behind = p .0; keyword-stays = q .0; name-here = r .0; dues-met = s .0; told = t .0; goes-on = t .1 }
 
+-- every word is proper; f tells whether an if has begun before
 unfoldable pub Walks : Bool → Seen → List ℕ → Type 0
 Walks f st [] = Unit {0}
 Walks f st (k ∷ ks) = (proper (seat f st) k (seat (begunIf f k) (step st k)) ≡ true) × Walks (begunIf f k) (step st k) ks

@@ -2,19 +2,18 @@
 -- of its kind: of roles, users and booleans (`named-below`), classes (`class-below`) and types, by their own name or by an alias
 -- (`type-below`). A name's number is the place of the first that reads so, and one does.
 -- Assumes nothing.
-use Prim.Native.Nat.{ℕ, zero, suc, _+_, _<_}
+use Prim.Native.Nat.{ℕ, suc, _+_, _<_}
 use native.Mathlib.Omega.{arith}
 use mathlib.Core.Path.{_≡_, refl, sym, ap, _∙_}
-use mathlib.Core.Bool.{Bool, true, false, _&&_, false≢true}
+use mathlib.Core.Bool.{Bool, true, false, false≢true}
 use mathlib.Core.List.{List, [], _∷_}
-use borrow.Author.Tests.{eqb-true}
 use lib.Dec.{eqb}
 use lib.ListN.{length, getD}
-use Rattle.meaning.specs.Plain.{if_then_else_, any, keep, each, indexFrom, sameBytes, Spot, nowhere, at, orElse, firstAt}
+use Rattle.meaning.specs.Plain.{if_then_else_, any, indexFrom, sameBytes, Spot, nowhere, at, orElse, firstAt}
 use Rattle.meaning.specs.Keywords.{kName}
 use Rattle.meaning.specs.Statements.{Item, Statement}
 use Rattle.meaning.specs.Names.{Decl, declared, usesAt, uses, serves, isServed, unknown, undeclared, dClass}
-use Rattle.meaning.specs.Permissions.{Name, Class, classOf, classesIn}
+use Rattle.meaning.specs.Permissions.{Class, classOf, classesIn}
 use Rattle.meaning.specs.Sets.{nameOf, ofKind}
 use Rattle.meaning.specs.Rules.{numberOf, classNumber}
 use Rattle.meaning.proofs.Lists.{bool-cases, and-both, same-bytes, bytes-same, Among, here, there, among-keep, among-each, any-among}

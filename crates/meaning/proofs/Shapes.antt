@@ -1,57 +1,31 @@
--- The shape of the statements of a text of the grammar, where a later page rests on it (`shapes`):
+-- The shape of the statements of a text of the grammar, where a later page rests on it (`shape`). In a statement of a plain form
+--   named   every word at a position where only names may stand is a name
+--   owed    where a name must stand, one stands
+--   told    in a constraint, the words behind u1 .. t2 stand at the position of what these are compared with (`heads`)
+-- Every word is proper (Walks). What is gathered from a word on has its shape if what is gathered behind the word has (`shape-on`), and
+-- at the `;` that ends the statement nothing is left to say (`shape-over`).
 -- Assumes nothing.
-use Prim.Native.Nat.{ℕ, zero, suc, _+_, _-_, _≤_, _<_}
+use Prim.Native.Nat.{ℕ}
 use native.Mathlib.Omega.{arith}
-use mathlib.Core.Path.{_≡_, refl, sym, _∙_, ap, subst}
+use mathlib.Core.Path.{_≡_, refl, sym, _∙_}
 use mathlib.Core.Bool.{Bool, true, false, not, _&&_, _||_, false≢true}
 use mathlib.Core.List.{List, [], _∷_}
-use borrow.Author.Tests.{eqb-true, eq-eqb, leb-true, le-leb, not-true}
+use borrow.Author.Tests.{eqb-true, leb-true, le-leb, not-true}
 use lib.Dec.{eqb, leb}
 use lib.ListN.{length}
 use Rattle.meaning.specs.Plain.{if_then_else_, within, keep}
-use Rattle.meaning.specs.Keywords.{kName, kRparen, kSemi, kClass, kCommon, kType, kTypealias, kTypebounds, kRole, kRoleTransition, kAllow, kIf, kElse, kConstrain, kPerms, kRoleTypes, kRoleAllow, kU1, kU2, kR1, kR2, starts, isTypeRule, isAv, isTerm}
+use Rattle.meaning.specs.Keywords.{kName, kRparen, kSemi, kClass, kRole, kIf, kElse, kConstrain, kU1, kU2, kR1, kR2, starts, isTerm}
 use Rattle.meaning.specs.Words.{Word, wordsOf}
-use Rattle.meaning.specs.Statements.{Seen, outside, step, compared, inE, ofE, idle, saying, says, Item, itemOf, Branch, always, Statement, statementsOf, ends, formAt, Gathered, gather, pFirst, pSecond, pThird, pTest, pUsers, pRoles, pTypes}
+use Rattle.meaning.specs.Statements.{Seen, outside, step, compared, inE, ofE, idle, saying, says, Item, itemOf, Branch, always, Statement, statementsOf, ends, formAt, Gathered, gather, pFirst, pTest, pUsers, pRoles, pTypes}
 use Rattle.meaning.proofs.Lists.{bool-cases, and-both, both-and, or-cases, Among, here, there}
 use Rattle.meaning.proofs.Texts.{either-right}
 use Rattle.meaning.proofs.Reading.{kinds, fits-is}
-use Rattle.meaning.proofs.Seats.{Seat, seat, begunIf, silent, opens, closes, due, paid, speaks, namesOnly, proper, Proper, proper-is, Walks}
+use Rattle.meaning.proofs.Seats.{Seat, seat, begunIf, silent, opens, due, paid, speaks, namesOnly, Proper, proper-is, Walks}
 use Rattle.meaning.proofs.Walks.{walks}
+use Rattle.meaning.proofs.Forms.{plainForm, form-plain}
 use Rattle.meaning.proofs.Accepted.{NoEarlier, statementsIn}
 
--- ---- the forms that are their keyword; they end with `;`
-abbrev pub plainForm : ℕ → Bool
-plainForm k =
-    isAv k || isTypeRule k || eqb k kType || eqb k kTypealias || eqb k kTypebounds || eqb k kRoleTransition || eqb k kConstrain
-
-abbrev formBy : Bool → Bool → Bool → Bool → Bool → Bool → Bool → ℕ → ℕ
-formBy class two other semi role one allow w =
-    if class then (if two then kClass else kPerms)
-    else if other then w
-    else if not semi then 0
-    else if role then (if one then kRole else kRoleTypes)
-    else if allow then kRoleAllow
-    else w
-
-form-by : (class two other semi role one allow : Bool) (w : ℕ) → (other ≡ true → plainForm w ≡ false)
-    → plainForm (formBy class two other semi role one allow w) ≡ true → (formBy class two other semi role one allow w ≡ w) × (semi ≡ true)
-form-by true true other semi role one allow w h e = absurd (false≢true e)
-form-by true false other semi role one allow w h e = absurd (false≢true e)
-form-by false two true semi role one allow w h e = absurd (false≢true (sym (h refl) ∙ e))
-form-by false two false false role one allow w h e = absurd (false≢true e)
-form-by false two false true true true allow w h e = absurd (false≢true e)
-form-by false two false true true false allow w h e = absurd (false≢true e)
-form-by false two false true false one true w h e = absurd (false≢true e)
-form-by false two false true false one false w h e = (refl, refl)
-
-form-plain : (st : Seen) (k : ℕ) → plainForm (formAt st k) ≡ true → (formAt st k ≡ st .kw) × (eqb k kSemi ≡ true)
-unfolding formAt
-form-plain st k e =
-    form-by (eqb (st .kw) kClass) (eqb (st .pos) pSecond && (eqb k kClass || eqb k kCommon)) (eqb (st .kw) kCommon || eqb (st .kw) kIf)
-    (eqb k kSemi) (eqb (st .kw) kRole) (eqb (st .pos) pSecond) (eqb (st .kw) kAllow && eqb (st .pos) pThird) (st .kw)
-    (λ h. or-cases (eqb (st .kw) kCommon) (eqb (st .kw) kIf) h (λ p. rw (eqb-true (st .kw) kCommon p)) (λ p. rw (eqb-true (st .kw) kIf p))) e
-
--- ---- a word more of a statement
+-- ---- a word more of a statement: what `gather` makes of what is gathered behind it, by the tests that it makes
 abbrev more : Seen → Word → List Item → Bool → List Item
 more st w is s = if s then itemOf st w ∷ is else is
 
@@ -76,7 +50,8 @@ says-what st k e = and-both (starts (st .kw) && not (eqb (st .kw) kElse) && not 
 ofE-what : (st : Seen) (k : ℕ) → ofE st k ≡ true → (inE st ≡ true) × (not (eqb k kSemi) ≡ true)
 unfolding ofE
 ofE-what st k e =
-    let a = and-both (inE st && not (starts k) && not (eqb k kSemi)) (not (eqb (st .kw) kIf && eqb (st .pos) pTest && eqb k kRparen && eqb (st .depth) 0)) e in
+    let own : Bool = eqb (st .kw) kIf && eqb (st .pos) pTest && eqb k kRparen && eqb (st .depth) 0 in
+    let a = and-both (inE st && not (starts k) && not (eqb k kSemi)) (not own) e in
     let b = and-both (inE st && not (starts k)) (not (eqb k kSemi)) (a .0) in
     (and-both (inE st) (not (starts k)) (b .0) .0, b .1)
 
@@ -111,6 +86,7 @@ module _ (f : Bool) (st : Seen) (k : ℕ) (p : Proper (seat f st) k (seat (begun
       let a = and-both (starts (st .kw) && not (eqb (st .kw) kElse)) (not (eqb (st .kw) kClass || eqb (st .kw) kRole)) e in
       rw (a .0, not-true (eqb (st .kw) kClass || eqb (st .kw) kRole) (a .1), says) (either-right (ofE st k) (saying k) s)
 
+-- so nothing is gathered there
 quiet : (ws : List Word) (f : Bool) (st : Seen) (n : ℕ) (b : Branch) → Walks f st (kinds ws) → silent (st .kw) ≡ true
     → gather st n b ws .items ≡ []
 unfolding gather Walks
@@ -149,7 +125,7 @@ or-false : (a b : Bool) → (a || b) ≡ false → (a ≡ false) × (b ≡ false
 or-false true b e = absurd (false≢true (sym e))
 or-false false b e = (refl, e)
 
-compared-is : (k : ℕ) → within pUsers pTypes (compared k) ≡ true
+pub compared-is : (k : ℕ) → within pUsers pTypes (compared k) ≡ true
 unfolding compared
 compared-is k = by (within kU1 kU2 k) (within kR1 kR2 k)
   where
@@ -166,7 +142,8 @@ compares-in p e =
 -- one word more, which does not end the statement
 module _ (f : Bool) (st : Seen) (w : Word) (p : Proper (seat f st) (w .kind) (seat (begunIf f (w .kind)) (step st (w .kind))))
     (e : ends st (w .kind) ≡ false) (is : List Item) (r : Shape (st .kw) (step st (w .kind) .pos) is) where
-  named-on : (s : Bool) → says st (w .kind) ≡ s → (i : Item) → Among i (more st w is s) → namesOnly (st .kw) (i .pos) ≡ true → eqb (i .kind) kName ≡ true
+  named-on : (s : Bool) → says st (w .kind) ≡ s → (i : Item) → Among i (more st w is s) → namesOnly (st .kw) (i .pos) ≡ true
+      → eqb (i .kind) kName ≡ true
   unfolding itemOf
   named-on true s i (here q) n = rw q (name-said f st (w .kind) p s (rw q at n))
   named-on true s i (there m) n = r .named i m n
@@ -176,7 +153,8 @@ module _ (f : Bool) (st : Seen) (w : Word) (p : Proper (seat f st) (w .kind) (se
   unfolding ends
   goes = or-false (starts (w .kind)) (eqb (w .kind) kSemi) (or-false (starts (w .kind) || eqb (w .kind) kSemi) _ e .0)
 
-  owed-on : (s : Bool) → says st (w .kind) ≡ s → paid (st .kw) (st .pos) ≡ false → (i : Item) × Among i (more st w is s) × (due (st .kw) (i .pos) ≡ true)
+  owed-on : (s : Bool) → says st (w .kind) ≡ s → paid (st .kw) (st .pos) ≡ false
+      → (i : Item) × Among i (more st w is s) × (due (st .kw) (i .pos) ≡ true)
   unfolding itemOf
   owed-on s h n =
       bool-cases (paid (st .kw) (step st (w .kind) .pos))
@@ -208,10 +186,12 @@ module _ (f : Bool) (st : Seen) (w : Word) (p : Proper (seat f st) (w .kind) (se
   unfolding itemOf Told
   told-on s h c =
       bool-cases (inE st)
-      (λ i. rw (sym h ∙ test-said c i, i)
-      (λ q k.
-      let z : step st (w .kind) .pos ≡ compared (w .kind) = eqb-true _ _ (rw (c, q, k) at (p .told)) in
-      rw z at (r .heads c (rw z (compared-is (w .kind)))), r .told c))
+      (λ i. rw (sym h ∙ test-said c i, i) (
+        λ q k.
+            let z : step st (w .kind) .pos ≡ compared (w .kind) = eqb-true _ _ (rw (c, q, k) at (p .told)) in
+            rw z at (r .heads c (rw z (compared-is (w .kind)))),
+        r .told c,
+      ))
       (λ i. by s i)
     where
       by : (s : Bool) → inE st ≡ false → Told (keep inTest (more st w is s))
@@ -255,7 +235,8 @@ shape-of : (ws : List Word) (f : Bool) (st : Seen) (n : ℕ) (b : Branch) → Wa
 unfolding gather Walks
 shape-of [] f st n b g h = absurd (false≢true h)
 shape-of (w ∷ ws) f st n b g h =
-    by (opens k) (ends st k) (says st k) refl refl refl _ (shape-of ws (begunIf f k) (step st k) _ _ (g .1)) (quiet ws (begunIf f k) (step st k) _ _ (g .1)) h
+    by (opens k) (ends st k) (says st k) refl refl refl _ (shape-of ws (begunIf f k) (step st k) _ _ (g .1))
+    (quiet ws (begunIf f k) (step st k) _ _ (g .1)) h
   where
     k : ℕ
     k = w .kind

@@ -69,10 +69,12 @@ merged : List Seat → List Seat → List Seat
 merged [] T = T
 merged (a ∷ S) T = merged S (if isOf T a then T else a ∷ T)
 
--- ---- the seats between statements, and those in an expression: what the texts of a rule lead from and to; of the other rules none
+-- ---- the seats between statements, and those in an expression
 sitting : Bool → ℕ → ℕ → Seat
 sitting f w p = record { kw = w; pos = p; inside = false; ifs = f }
 
+-- behind `;`, behind the brace that closes an if, behind `class` and `common`, which have no `;`, and behind the condition of an if,
+-- which a seat does not tell from its end
 between : Bool → List Seat
 between f =
     sitting f 0 0 ∷ sitting f 0 1 ∷ sitting f kClass 1 ∷ sitting f kClass 2 ∷ sitting f kClass 3 ∷ sitting f kClass 4 ∷ sitting f kCommon 2
@@ -81,6 +83,7 @@ between f =
 inExpression : Bool → ℕ → List Seat
 inExpression f w = sitting f w pTest ∷ sitting f w pBehind ∷ []
 
+-- of each rule the seats that its texts lead from and to; none of a list and of a rule that may stand in an if, which are gone into
 loops : List (List Seat)
 loops =
     let all = between false ++ between true in
@@ -93,7 +96,8 @@ loop i = getD loops i []
 data Goes : List Seat → G → List Seat → Type 0 where
   by-none : {S T : List Seat} → Goes S none T
   by-eps : {S T : List Seat} → Within S T → Goes S eps T
-  by-tok : {S T : List Seat} {k : ℕ} → ((a : Seat) → Among a S → (b : Seat) → Among b (nexts k a) → (proper a k b ≡ true) × Among b T) → Goes S (tok k) T
+  by-tok : {S T : List Seat} {k : ℕ} → ((a : Seat) → Among a S → (b : Seat) → Among b (nexts k a) → (proper a k b ≡ true) × Among b T)
+      → Goes S (tok k) T
   by-seq : {S M T : List Seat} {a b : G} → Goes S a M → Goes M b T → Goes S (seq a b) T
   by-alt : {S M N T : List Seat} {a b : G} → Goes S a M → Goes S b N → Within M T → Within N T → Goes S (alt a b) T
   by-star : {S M N T : List Seat} {a : G} → Within S M → Goes M a N → Within N M → Within M T → Goes S (star a) T
