@@ -12,7 +12,7 @@ use lib.Dec.{eqb, ltb, leb}
 use lib.ListN.{length, getD}
 use Rattle.meaning.specs.Plain.{if_then_else_, any, keep, each, joined, within, Spot, nowhere, at, orElse, firstAt}
 use Rattle.meaning.specs.Statements.{Item, Statement}
-use Rattle.meaning.specs.Names.{Decl, declares, declOf, declaredBy, declared, objectR, standsBefore, space, permDecls, twiceWord, secondPerms, twiceIn, declaredTwice, dNone, dType, dRole, dClass, dBool, dPerm}
+use Rattle.meaning.specs.Names.{Decl, declares, declOf, declaredBy, declared, objectR, repeats, space, permDecls, twiceWord, secondPerms, twiceIn, declaredTwice, dNone, dType, dRole, dClass, dBool, dPerm}
 use Rattle.meaning.specs.Permissions.{classOf, classesIn}
 use Rattle.meaning.specs.Sets.{nameOf, ofKind, namesOf}
 use Rattle.meaning.proofs.Lists.{Among, here, there, bool-cases, and-both, bytes-same, keep-among, among-keep, each-among, joined-among, among-any, at-among, among-at, length-each, getD-each}
@@ -62,7 +62,7 @@ is-declared k e =
 
 module _ (ss : List Statement) (once : declaredTwice ss ≡ nowhere) where
   item-differs : (st : Statement) (i : Item) (x : Decl) → Among st ss → Among i (st .items) → Among x (declared ss)
-      → within dType dBool (declares st i) ≡ true → standsBefore (declOf st i) x ≡ true → ⊥
+      → within dType dBool (declares st i) ≡ true → repeats (declOf st i) x ≡ true → ⊥
   unfolding declaredTwice twiceIn twiceWord declOf
   item-differs st i x m k n d h =
       let ds = declared ss in
@@ -70,17 +70,17 @@ module _ (ss : List Statement) (once : declaredTwice ss ≡ nowhere) where
       let a = first-nowhere (twiceIn ss ds) ss once m in
       let b = if-nowhere (secondPerms ss st) (st .at) (firstAt (twiceWord ds ps st) (st .items)) a .1 in
       let c = first-nowhere (twiceWord ds ps st) (st .items) b k in
-      let y : Bool = not (eqb (declares st i) dNone) && any (standsBefore (declOf st i)) (if eqb (declares st i) dPerm then ps else ds) in
+      let y : Bool = not (eqb (declares st i) dNone) && any (repeats (declOf st i)) (if eqb (declares st i) dPerm then ps else ds) in
       let r = is-declared (declares st i) d in
-      let t : y ≡ true = rw (r .0, r .1) (among-any (standsBefore (declOf st i)) n h) in
+      let t : y ≡ true = rw (r .0, r .1) (among-any (repeats (declOf st i)) n h) in
       false≢true (sym (if-nowhere y (i .at) nowhere c .0) ∙ t)
 
   later-differs : (x y : Decl) → Among x (joined declaredBy ss) → Among y (joined declaredBy ss) → x .at < y .at
       → space (x .kind) ≡ space (y .kind) → x .text ≡ y .text → ⊥
-  unfolding standsBefore declared
+  unfolding repeats declared
   later-differs x y m k l e t =
       let b = declared-by ss k in
-      let h : standsBefore y x ≡ true = rw (lt-ltb (x .at) (y .at) l, eq-eqb (space (x .kind)) (space (y .kind)) e, t) (bytes-same (y .text)) in
+      let h : repeats y x ≡ true = rw (lt-ltb (x .at) (y .at) l, eq-eqb (space (x .kind)) (space (y .kind)) e, t) (bytes-same (y .text)) in
       item-differs (b .0) (b .1) x (b .2) (b .3) (there m) (b .5) (rw (b .4) at h)
 
 -- ---- the declarations of one name space

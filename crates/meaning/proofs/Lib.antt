@@ -41,3 +41,21 @@ pub mod Own
 pub mod Kept
 pub mod Held
 pub mod Counts
+-- the shape of the statements of a text of the grammar
+pub mod Seats
+pub mod Walks
+pub mod Forms
+pub mod Shapes
+pub mod Branches
+-- the numbers of a policy are in their ranges
+pub mod Served
+pub mod Declared
+pub mod Aliased
+pub mod Pushed
+pub mod Listed
+pub mod Comparisons
+pub mod Ranges
+pub mod Ruled
+pub mod InRange
+-- of an accepted text: sizes, ancestors
+pub mod Ancestors

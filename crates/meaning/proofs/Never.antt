@@ -17,7 +17,7 @@ use Rattle.meaning.specs.Coverage.{covers}
 use Rattle.meaning.specs.Policy.{Switch, Row, Policy}
 use Rattle.meaning.specs.Rules.{classNumber, policyOf}
 use Rattle.meaning.specs.Contexts.{Context, reads, nameless, classAt, typeNumber, parts, contextOf, Asked, refusedWith, about, asked}
-use Rattle.meaning.specs.Access.{inForce, rowCovers, covered, unconstrained, rolesFit, ownAllows, allows, number, bitOf, refusedAnswer, answered, access}
+use Rattle.meaning.specs.Access.{inForce, rowCovers, covered, constrainsHold, rolesFit, ownAllows, allows, number, bitOf, refusedAnswer, answered, access}
 use Rattle.meaning.specs.Questions.{withBools, switch, Call, afterCalls}
 use Rattle.meaning.specs.Keywords.{kAllow, kNeverallow}
 use Rattle.meaning.specs.Refusals.{accepted}
@@ -48,7 +48,7 @@ calls-bools p (c ∷ cs) =
 own-covered : (p : Policy) (s t : Context) (c i : ℕ) → ownAllows p s t c i ≡ true → covered p kAllow (s .type) (t .type) c i ≡ true
 unfolding ownAllows
 own-covered p s t c i e =
-    and-both _ (unconstrained p s t c i) (and-both (covered p kAllow (s .type) (t .type) c i && unconstrained p s t c i) (rolesFit p s t c i) e .0) .0
+    and-both _ (constrainsHold p s t c i) (and-both (covered p kAllow (s .type) (t .type) c i && constrainsHold p s t c i) (rolesFit p s t c i) e .0) .0
 
 allows-own : (p : Policy) (left : ℕ) (s t : Context) (c i : ℕ) → allows p left s t c i ≡ true → ownAllows p s t c i ≡ true
 unfolding allows

@@ -54,8 +54,8 @@ unfoldable pub isNamedBy : Constrain → ℕ → ℕ → Bool
 isNamedBy k c i = holds (getD (k .perms) c []) i
 
 -- "every constrain naming its class and permission is true"
-unfoldable pub unconstrained : Policy → Context → Context → ℕ → ℕ → Bool
-unconstrained p s t c i = every (λ k. not (isNamedBy k c i) || value (passes s t) (k .test)) (p .constrains)
+unfoldable pub constrainsHold : Policy → Context → Context → ℕ → ℕ → Bool
+constrainsHold p s t c i = every (λ k. not (isNamedBy k c i) || value (passes s t) (k .test)) (p .constrains)
 
 -- ---- "for `transition` or `dyntransition` of class `process` between different roles, a role allow covers them"
 unfoldable pub isProcess : Class → Bool
@@ -77,7 +77,7 @@ rolesFit p s t c i = not (isTransition (classAt p c) i) || eqb (s .role) (t .rol
 -- source type has a parent, .."
 -- what the source's own type is allowed, its parent not asked
 unfoldable pub ownAllows : Policy → Context → Context → ℕ → ℕ → Bool
-ownAllows p s t c i = covered p kAllow (s .type) (t .type) c i && unconstrained p s t c i && rolesFit p s t c i
+ownAllows p s t c i = covered p kAllow (s .type) (t .type) c i && constrainsHold p s t c i && rolesFit p s t c i
 
 unfoldable pub withType : Context → ℕ → Context
 withType s x = record { user = s .user; role = s .role; type = x }

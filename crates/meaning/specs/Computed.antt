@@ -59,11 +59,11 @@ roleFor member p s t c x = x
 
 unfoldable pub computed : Policy → Question → Context → Context → ℕ → Context
 computed p q s t c =
-    let mine = keepsSource (classAt p c) in
+    let fromSource = keepsSource (classAt p c) in
     record {
       user = userFor q s t;
-      role = roleFor q p s t c (if mine then s .role else 0);
-      type = typeBy (p .typeRows) (ruleFor q) (s .type) (t .type) c (if mine then s .type else t .type);
+      role = roleFor q p s t c (if fromSource then s .role else 0);
+      type = typeBy (p .typeRows) (ruleFor q) (s .type) (t .type) c (if fromSource then s .type else t .type);
     }
 
 -- ---- the answer: a number, and the context's text, which goes to the output

@@ -57,29 +57,29 @@ name = tok kName
 abbrev pub policy : G
 policy = nt 0
 
-abbrev pub section1 : G
-section1 = nt 1
+abbrev pub statement1 : G
+statement1 = nt 1
 
-abbrev pub section2 : G
-section2 = nt 2
+abbrev pub statement2 : G
+statement2 = nt 2
 
-abbrev pub section3 : G
-section3 = nt 3
+abbrev pub statement3 : G
+statement3 = nt 3
 
-abbrev pub section4 : G
-section4 = nt 4
+abbrev pub statement4 : G
+statement4 = nt 4
 
-abbrev pub section5 : G
-section5 = nt 5
+abbrev pub statement5 : G
+statement5 = nt 5
 
-abbrev pub section6 : G
-section6 = nt 6
+abbrev pub statement6 : G
+statement6 = nt 6
 
 abbrev pub list : G
 list = nt 7
 
-abbrev pub branchRule : G
-branchRule = nt 8
+abbrev pub avRule : G
+avRule = nt 8
 
 abbrev pub boolE : G
 boolE = nt 9
@@ -132,7 +132,7 @@ test = star (w "not") · ((against "u1" "u2" / against "r1" "r2" / against "t1" 
 unfoldable pub rules : List G
 rules =
     -- policy
-    (plus section1 · star section2 · plus section3 · plus section4 · plus section5 · star section6)
+    (plus statement1 · star statement2 · plus statement3 · plus statement4 · plus statement5 · star statement6)
     -- section 1: `class NAME` (no semicolon).
     ∷ (w "class" · name)
     -- section 2: `common NAME { perms }`
@@ -151,9 +151,9 @@ rules =
     / w "allow" · names · names · w ";"
     / w "role_transition" · names · names · opt (w ":" · names) · name · w ";"
     / (w "type_transition" / w "type_change" / w "type_member") · source · source · w ":" · names · name · w ";"
-    / branchRule
+    / avRule
     / w "neverallow" · (source / starred) · (target / starred) · w ":" · names · perms · w ";"
-    / w "if" · w "(" · boolE · w ")" · w "{" · star branchRule · w "}" · opt (w "else" · w "{" · star branchRule · w "}"))
+    / w "if" · w "(" · boolE · w ")" · w "{" · star avRule · w "}" · opt (w "else" · w "{" · star avRule · w "}"))
     -- section 5: `user U roles R;`
     ∷ (w "user" · name · w "roles" · names · w ";")
     -- section 6: `constrain CLASS PERMS E;`

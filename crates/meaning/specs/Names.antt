@@ -102,9 +102,9 @@ commonPerms x ss = firstOf (each (namesAt pSecond) (keep (isCommon x) ss))
 unfoldable pub inherited : List Statement → Statement → List Item
 inherited ss st = if eqb (st .form) kPerms then commonPerms (firstText (part pThird st)) ss else []
 
--- ---- 6, declared twice: a name is refused where one of its name space that stands before it reads the same
-unfoldable pub standsBefore : Decl → Decl → Bool
-standsBefore d e = ltb (e .at) (d .at) && eqb (space (e .kind)) (space (d .kind)) && sameBytes (d .text) (e .text)
+-- ---- 6, declared twice: a name is refused where it repeats one: the same name space, before it, and it reads the same
+unfoldable pub repeats : Decl → Decl → Bool
+repeats d e = ltb (e .at) (d .at) && eqb (space (e .kind)) (space (d .kind)) && sameBytes (d .text) (e .text)
 
 -- "permissions one per common, and one per class with its common": those that a permission of the statement is held against
 unfoldable pub permDecl : Item → Decl
@@ -116,7 +116,7 @@ permDecls ss st = each permDecl (inherited ss st ++ keep (λ i. eqb (declares st
 unfoldable pub twiceWord : List Decl → List Decl → Statement → Item → Spot
 twiceWord ds ps st i =
     let d = declOf st i in
-    if not (eqb (d .kind) dNone) && any (standsBefore d) (if eqb (d .kind) dPerm then ps else ds) then at (i .at) else nowhere
+    if not (eqb (d .kind) dNone) && any (repeats d) (if eqb (d .kind) dPerm then ps else ds) then at (i .at) else nowhere
 
 -- "Declaring `object_r`, or a second permission statement for a class, is 6", at its first word
 unfoldable pub secondPerms : List Statement → Statement → Bool
