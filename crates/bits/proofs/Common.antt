@@ -2,9 +2,9 @@
 --   Apart, Lowest            no number below n is in both; r is the lowest that is, or 32 for each word where there is none
 --   lowest-is, lowest-only   lowestCommon is such a number, and there is no other
 --   both-meet, meet-both     two sets of a policy meet where some number is in both, and only there
---   meets-is                 meets is `meet` of the two sets, taken as far as one of them ranges
+--   meets-is                 meets is `meet` of the two sets, taken as far as one of them goes
 --   meets-lowest             and is known from the lowest number
---   apart-.., lowest-..      the turns and the ends of the search word by word
+--   sharedAt a b i           the digits that word i of both has; apart-turn, lowest-found, lowest-none: the search by words
 -- Assumes nothing.
 use mathlib.Core.Path.{_≡_, refl, sym, ap, ap₂, _∙_}
 use mathlib.Core.Bool.{Bool, true, false, _&&_, false≢true}
@@ -20,9 +20,9 @@ use Rattle.meaning.specs.Plain.{if_then_else_}
 use Rattle.meaning.specs.Policy.{Set, holds, meet}
 use Rattle.meaning.specs.Access.{bitOf}
 use Rattle.meaning.proofs.Lists.{bool-cases, same-test, and-both, both-and, holds-below}
-use Rattle.bits.specs.Bits.{member, setIn, common, firstFrom, lowestCommon, meets, noneFrom}
+use Rattle.bits.specs.Bits.{member, setIn, common, firstFrom, lowestCommon, meets}
 use Rattle.bits.proofs.Digits.{bit-and, bit-none, trailing-clear, trailing-set, trailing-below}
-use Rattle.bits.proofs.Members.{member-at, member-below, length-setIn, holds-setIn, none-from}
+use Rattle.bits.proofs.Members.{member-at, member-below, length-setIn, holds-setIn}
 
 pub record Apart (a b : List ℕ) (n : ℕ) : Type 0 where
   pub clear : (k : ℕ) → k < n → common a b k ≡ false
@@ -32,6 +32,9 @@ pub record Lowest (a b : List ℕ) (r : ℕ) : Type 0 where
   pub found : r < 32 * length a → common a b r ≡ true
   pub below : Apart a b r
 
+abbrev pub sharedAt : List ℕ → List ℕ → ℕ → ℕ
+sharedAt a b i = bitAnd (getD a i 0) (getD b i 0)
+
 -- ---- the first number of which a test holds
 module _ (p : ℕ → Bool) where
   first-here : (i n : ℕ) → p i ≡ true → firstFrom p i (suc n) ≡ i
@@ -40,7 +43,8 @@ module _ (p : ℕ → Bool) where
   first-next : (i n : ℕ) → p i ≡ false → firstFrom p i (suc n) ≡ firstFrom p (i + 1) n
   first-next i n e = rw e
 
-  first-only : (i n r : ℕ) → i ≤ r → r ≤ i + n → (r < i + n → p r ≡ true) → ((k : ℕ) → k < r → p k ≡ false) → firstFrom p i n ≡ r
+  first-only : (i n r : ℕ) → i ≤ r → r ≤ i + n → (r < i + n → p r ≡ true) → ((k : ℕ) → k < r → p k ≡ false)
+      → firstFrom p i n ≡ r
   first-only i zero r l h t c = omega arith
   first-only i (suc n) r l h t c = bool-cases (eqb i r)
       (λ e. let q = eqb-true i r e in first-here i n (ap p q ∙ t (omega arith)) ∙ q)
@@ -48,7 +52,8 @@ module _ (p : ℕ → Bool) where
       first-next i n (c i (omega arith)) ∙ first-only (i + 1) n r (omega arith) (omega arith) (λ b. t (omega arith)) c)
 
   first-is : (i n : ℕ) → ((k : ℕ) → k < i → p k ≡ false)
-      → (firstFrom p i n ≤ i + n) × (firstFrom p i n < i + n → p (firstFrom p i n) ≡ true) × ((k : ℕ) → k < firstFrom p i n → p k ≡ false)
+      → (firstFrom p i n ≤ i + n) × (firstFrom p i n < i + n → p (firstFrom p i n) ≡ true)
+      × ((k : ℕ) → k < firstFrom p i n → p k ≡ false)
   first-is i zero c = (omega arith, λ h. absurd (omega arith), c)
   first-is i (suc n) c = bool-cases (p i)
       (λ e. rw (first-here i n e) (omega arith, λ h. e, c))
@@ -116,14 +121,14 @@ both-meets a b i e =
     let p = and-both (member a i) (member b i) e in
     common-meet (32 * length a) (32 * length b) a b i (member-below a i (p .0)) (member-below b i (p .1)) e
 
-pub meets-is : (n : ℕ) (a b : List ℕ) → noneFrom n a ≡ true → meets a b ≡ meet (setIn n a) (setIn n b)
+pub meets-is : (n : ℕ) (a b : List ℕ) → ((i : ℕ) → n ≤ i → member a i ≡ false) → meets a b ≡ meet (setIn n a) (setIn n b)
 meets-is n a b h = same-test (meets a b) (meet (setIn n a) (setIn n b))
     (λ e. let r = meets-both a b e in let l = in-range (r .0) (r .1) in common-meet n n a b (r .0) l l (r .1))
     (λ e. let r = meet-common n n a b e in both-meets a b (r .0) (r .1))
   where
     in-range : (i : ℕ) → common a b i ≡ true → i < n
     in-range i e = bool-cases (ltb i n) (ltb-true i n)
-        (λ t. absurd (false≢true (sym (none-from n a h i (ltb-false i n t)) ∙ and-both (member a i) (member b i) e .0)))
+        (λ t. absurd (false≢true (sym (h i (ltb-false i n t)) ∙ and-both (member a i) (member b i) e .0)))
 
 pub meets-lowest : (a b : List ℕ) → meets a b ≡ ltb (lowestCommon a b) (32 * length a)
 meets-lowest a b =
@@ -143,10 +148,10 @@ module _ (a b : List ℕ) where
 
   -- number 32 * i + j is in both where bit j of word i of both is set
   module _ (i : ℕ) where
-    common-at : (j : ℕ) → j < 32 → common a b (32 * i + j) ≡ bitOf (bitAnd (getD a i 0) (getD b i 0)) j
+    common-at : (j : ℕ) → j < 32 → common a b (32 * i + j) ≡ bitOf (sharedAt a b i) j
     common-at j h = ap₂ _&&_ (member-at a i j h) (member-at b i j h) ∙ sym (bit-and (getD a i 0) (getD b i 0) j)
 
-    apart-more : Apart a b (32 * i) → (t : ℕ) → t ≤ 32 → ((j : ℕ) → j < t → bitOf (bitAnd (getD a i 0) (getD b i 0)) j ≡ false)
+    apart-more : Apart a b (32 * i) → (t : ℕ) → t ≤ 32 → ((j : ℕ) → j < t → bitOf (sharedAt a b i) j ≡ false)
         → Apart a b (32 * i + t)
     apart-more h t l f =
         record {
@@ -155,16 +160,15 @@ module _ (a b : List ℕ) where
               ap (common a b) (sym e) ∙ common-at (k - 32 * i) (omega arith) ∙ f (k - 32 * i) (omega arith));
         }
 
-    pub apart-turn : Apart a b (32 * i) → bitAnd (getD a i 0) (getD b i 0) ≡ 0 → Apart a b (32 * (i + 1))
+    pub apart-turn : Apart a b (32 * i) → sharedAt a b i ≡ 0 → Apart a b (32 * (i + 1))
     apart-turn h z =
         let e : 32 * i + 32 ≡ 32 * (i + 1) = omega arith in
         rw e at (apart-more h 32 (omega arith) (λ j l. ap (λ (w : ℕ). bitOf w j) z ∙ bit-none j))
 
-    pub lowest-found : Apart a b (32 * i) → i < length a → bitAnd (getD a i 0) (getD b i 0) < 2 ^ 32 → (bitAnd (getD a i 0) (getD b i 0) ≡ 0 → ⊥)
-        → 32 * i + trailingZeros 32 (bitAnd (getD a i 0) (getD b i 0)) ≡ lowestCommon a b
+    pub lowest-found : Apart a b (32 * i) → i < length a → sharedAt a b i < 2 ^ 32 → (sharedAt a b i ≡ 0 → ⊥)
+        → 32 * i + trailingZeros 32 (sharedAt a b i) ≡ lowestCommon a b
     lowest-found h l f n =
-        let w = bitAnd (getD a i 0) (getD b i 0) in
-        let t = trailing-below 32 w f n in
+        let w = sharedAt a b i in let t = trailing-below 32 w f n in
         sym (lowest-only a b (32 * i + trailingZeros 32 w) (record {
           within = omega arith;
           found = λ _. common-at (trailingZeros 32 w) t ∙ trailing-set 32 w t;

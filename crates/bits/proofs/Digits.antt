@@ -6,18 +6,19 @@
 -- Bit 0 is x % 2, and bit i + 1 of x is bit i of x / 2 (bit-zero, bit-suc): each law is by induction on that.
 -- Assumes nothing.
 use mathlib.Core.Path.{_≡_, refl, sym, ap, _∙_}
-use mathlib.Core.Bool.{Bool, true, false, not, _&&_, _||_, false≢true}
+use mathlib.Core.Bool.{Bool, true, false, _&&_, _||_, false≢true}
 use mathlib.Core.List.{[], _∷_}
-use Prim.Native.Nat.{ℕ, zero, suc, _+_, _-_, _*_, _/_, _%_, _^_, _<_, _≤_, min, max}
-use native.Mathlib.Nat.{mod-lt, le-of-suc-le-suc, not-suc-le-zero, pow-suc, zero-div, div-one, div-eq-of-lt, div-le-self, div-lt-iff-lt-mul, lt-of-lt-of-le, lt-of-le-of-lt, mul-mod-left, mul-div-cancel}
+use Prim.Native.Nat.{ℕ, zero, suc, _+_, _*_, _/_, _%_, _^_, _<_, _≤_, min, max}
+use native.Mathlib.Nat.{le-of-suc-le-suc, not-suc-le-zero, lt-of-lt-of-le, lt-of-le-of-lt, pow-suc}
+use native.Mathlib.Nat.{mod-lt, zero-div, div-one, div-eq-of-lt, div-le-self, div-lt-iff-lt-mul, mul-mod-left, mul-div-cancel}
 use native.Mathlib.Numerals.{one-add}
 use native.Mathlib.Omega.{arith}
-use borrow.Author.Tests.{eq-eqb, lt-ltb, le-ltb, ltb-true, ltb-false}
+use borrow.Author.Tests.{eq-eqb, ltb-true, ltb-false}
 use lib.Arith.{digits-mod}
 use lib.Bits.{bitAnd, bitOr, bitXor, differ, and-step, or-step, xor-step, and-shr, or-shr, xor-shr}
 use lib.Count.{trailingZeros, under}
 use lib.Dec.{eqb, ltb, lit<, eqb·zero-suc, eqb·suc-zero, eqb·suc-suc}
-use lib.ListN.{length, replicate}
+use lib.ListN.{length}
 use lib.Pow.{shr-shr, pow-pos, pow-mono}
 use Rattle.meaning.specs.Plain.{if_then_else_, xor}
 use Rattle.meaning.specs.Policy.{Set, holds}

@@ -5,28 +5,28 @@
 --   full-at, member-fill          the set of all numbers below n, word by word and number by number
 -- Word j is made of the 32 entries from 32 * j on (packed-at): the rest comes down to the bits of that number.
 -- Assumes nothing.
-use mathlib.Core.Path.{_≡_, refl, sym, ap, ap₂, _∙_}
+use mathlib.Core.Path.{_≡_, refl, sym, ap, _∙_}
 use mathlib.Core.Bool.{true, false}
-use mathlib.Core.List.{List, [], _∷_}
-use Prim.Native.Nat.{ℕ, zero, suc, _+_, _-_, _*_, _/_, _%_, _^_, _<_, _≤_, min}
+use mathlib.Core.List.{List, _∷_}
+use Prim.Native.Nat.{ℕ, zero, suc, _+_, _-_, _*_, _/_, _%_, _<_, _≤_, min}
 use native.Mathlib.Nat.{not-suc-le-zero, le-of-suc-le-suc, lt-of-lt-of-le, min-le-left, sub-zero}
 use native.Mathlib.Omega.{arith}
-use borrow.Author.Tests.{ltb-true, ltb-false, lt-ltb, le-ltb}
+use borrow.Author.Tests.{ltb-true, ltb-false}
 use lib.Dec.{ltb, lit<}
-use lib.ListN.{length, getD, take, drop, replicate, length-take, length-drop, length-replicate, getD-replicate, List·getD-eq-default}
+use lib.ListN.{length, getD, take, drop, length-take, length-replicate, getD-replicate, List·getD-eq-default}
 use lib.Pow.{pow-mono}
 use lib.Seq.{getD-take, getD-drop, drop-drop}
 use Rattle.meaning.specs.Policy.{Set, holds}
 use Rattle.meaning.specs.Access.{number, bitOf}
 use Rattle.meaning.proofs.Lists.{bool-cases}
-use Rattle.bits.specs.Bits.{member, setIn, packed, full, Words, lowMask, noneFrom}
+use Rattle.bits.specs.Bits.{member, setIn, packed, full, Words, lowMask}
 use Rattle.bits.proofs.Digits.{number-bit, number-below, number-full}
-use Rattle.bits.proofs.Members.{member-at, member-past, words-ext, length-setIn, holds-setIn, setIn-is, none-from}
+use Rattle.bits.proofs.Members.{member-past, words-ext, length-setIn, holds-setIn, setIn-is}
 
 pub length-packed : (k : ℕ) (x : Set) → length (packed k x) ≡ k
 unfolding packed
 length-packed zero x = refl
-length-packed (suc k) x = ap suc (length-packed k (drop 32 x))
+length-packed (suc k) x = ap suc (length-packed k _)
 
 pub words-packed : (k : ℕ) (x : Set) → Words (packed k x)
 unfolding packed
@@ -34,7 +34,7 @@ words-packed zero x j = lit< tt
 words-packed (suc k) x zero =
     let l : length (take 32 x) ≤ 32 = simp length-take (min-le-left 32 (length x)) in
     lt-of-lt-of-le (number-below (take 32 x)) (pow-mono l)
-words-packed (suc k) x (suc j) = words-packed k (drop 32 x) j
+words-packed (suc k) x (suc j) = words-packed k _ j
 
 -- word j of them is made of the 32 entries from 32 * j on
 pub packed-at : (k : ℕ) (x : Set) (j : ℕ) → j < k → getD (packed k x) j 0 ≡ number (take 32 (drop (32 * j) x))
@@ -43,7 +43,8 @@ packed-at zero x j h = absurd (not-suc-le-zero h)
 packed-at (suc k) x zero h = refl
 packed-at (suc k) x (suc j) h =
     let e : 32 + 32 * j ≡ 32 * suc j = omega arith in
-    packed-at k (drop 32 x) j (le-of-suc-le-suc h) ∙ ap (λ (y : Set). number (take 32 y)) (drop-drop (32 * j) 32 x ∙ ap (λ (n : ℕ). drop n x) e)
+    packed-at k (drop 32 x) j (le-of-suc-le-suc h)
+    ∙ ap (λ (y : Set). number (take 32 y)) (drop-drop (32 * j) 32 x ∙ ap (λ (n : ℕ). drop n x) e)
 
 -- ---- what they hold
 pub member-packed : (k : ℕ) (x : Set) (i : ℕ) → i < 32 * k → member (packed k x) i ≡ holds x i
@@ -64,13 +65,14 @@ member-kept k x l i = bool-cases (ltb i (32 * k)) (λ t. member-packed k x i (lt
 pub setIn-packed : (k : ℕ) (x : Set) → length x ≤ 32 * k → setIn (length x) (packed k x) ≡ x
 setIn-packed k x l = setIn-is (length x) (packed k x) x refl (λ i h. member-kept k x l i)
 
-pub packed-setIn : (n : ℕ) (ws : List ℕ) → Words ws → noneFrom n ws ≡ true → packed (length ws) (setIn n ws) ≡ ws
+pub packed-setIn : (n : ℕ) (ws : List ℕ) → Words ws → ((i : ℕ) → n ≤ i → member ws i ≡ false)
+    → packed (length ws) (setIn n ws) ≡ ws
 packed-setIn n ws w e =
     let p = length-packed (length ws) (setIn n ws) in
     words-ext (packed (length ws) (setIn n ws)) ws (words-packed (length ws) (setIn n ws)) w p
     (λ i h. member-packed (length ws) (setIn n ws) i (omega arith) ∙ bool-cases (ltb i n) (λ t. holds-setIn n ws i (ltb-true i n t))
     (λ t. let l = ltb-false i n t in let s = length-setIn n ws in
-    List·getD-eq-default (setIn n ws) false (omega arith) ∙ sym (none-from n ws e i l)))
+    List·getD-eq-default (setIn n ws) false (omega arith) ∙ sym (e i l)))
 
 -- ---- all numbers below n
 drop-full : (m n : ℕ) → drop m (full n) ≡ full (n - m)
@@ -81,7 +83,9 @@ drop-full (suc m) (suc n) = let e : suc n - suc m ≡ n - m = omega arith in dro
 take-full : (m n : ℕ) → take m (full n) ≡ full (min n m)
 take-full zero n = let e : min n 0 ≡ 0 = omega arith in ap full (sym e)
 take-full (suc m) zero = let e : min 0 (suc m) ≡ 0 = omega arith in ap full (sym e)
-take-full (suc m) (suc n) = let e : min (suc n) (suc m) ≡ suc (min n m) = omega arith in ap (λ (x : Set). true ∷ x) (take-full m n) ∙ ap full (sym e)
+take-full (suc m) (suc n) =
+    let e : min (suc n) (suc m) ≡ suc (min n m) = omega arith in
+    ap (λ (x : Set). true ∷ x) (take-full m n) ∙ ap full (sym e)
 
 pub full-at : (k n j : ℕ) → j < k → getD (packed k (full n)) j 0 ≡ lowMask (min (n - 32 * j) 32)
 full-at k n j h =
@@ -96,5 +100,4 @@ member-fill k n i h =
     (λ t. let b = ltb-false i n t in List·getD-eq-default (full n) false (omega arith) ∙ sym t)
 
 pub setIn-fill : (k n : ℕ) → n ≤ 32 * k → setIn n (packed k (full n)) ≡ full n
-setIn-fill k n h = setIn-is n (packed k (full n)) (full n) (length-replicate n true)
-    (λ i b. member-fill k n i h ∙ lt-ltb i n b ∙ sym (getD-replicate n i true false b))
+setIn-fill k n h = let l = length-replicate n true in rw l at (setIn-packed k (full n) (omega arith))

@@ -6,10 +6,9 @@
 --   none-from, from-none   noneFrom says that no number from n on is a member
 -- Assumes nothing.
 use mathlib.Core.Path.{_≡_, refl, sym, ap, ap₂, _∙_}
-use mathlib.Core.Bool.{Bool, true, false, not, _&&_, _||_, or-true, or-false, false≢true}
+use mathlib.Core.Bool.{Bool, true, false, not, _||_, or-true, or-false, false≢true}
 use mathlib.Core.List.{List, [], _∷_, zipWith}
-use mathlib.Core.Logic.{⊎-elim, _⊎_, inl, inr}
-use Prim.Native.Nat.{ℕ, zero, suc, _+_, _-_, _*_, _/_, _%_, _^_, _<_, _≤_, min}
+use Prim.Native.Nat.{ℕ, zero, suc, _+_, _-_, _*_, _/_, _%_, _^_, _<_, _≤_}
 use native.Mathlib.Nat.{le-of-suc-le-suc, not-suc-le-zero, add-zero, zero-add}
 use native.Mathlib.Omega.{arith}
 use borrow.Author.Tests.{eq-eqb, ne-eqb, eqb-true, eqb-false, ltb-true, ltb-false, not-true}
@@ -17,7 +16,7 @@ use lib.Bits.{bitOr}
 use lib.Dec.{eqb, ltb, eqb·zero-suc, eqb·suc-zero, eqb·suc-suc}
 use lib.ListN.{length, getD, set, length-set, List·getD-eq-default}
 use lib.Seq.{ext-getD, getD-set-same, getD-set-other}
-use Rattle.meaning.specs.Plain.{if_then_else_, every, each, numbers, upTo}
+use Rattle.meaning.specs.Plain.{if_then_else_, every, numbers, upTo}
 use Rattle.meaning.specs.Policy.{Set, holds}
 use Rattle.meaning.specs.Access.{bitOf}
 use Rattle.meaning.proofs.Lists.{bool-cases, same-test, length-each, getD-each}

@@ -15,7 +15,6 @@ use lib.Dec.{ltb}
 use lib.ListN.{length, getD, take, drop, set, drop-of-length-le}
 use lib.Pow.{le-ones, lt-of-le-ones}
 use lib.Seq.{drop-cons, getD-at, length-take-le, paste-suc, take-all}
-use Rattle.meaning.specs.Access.{bitOf}
 use Rattle.meaning.proofs.Lists.{bool-cases}
 use Rattle.bits.specs.Bits.{member, packed, full, lowMask, noneFrom}
 use Rattle.bits.proofs.Digits.{bit-above, bits-below}

@@ -2,9 +2,10 @@
 // ranges stands in its `requires`.
 ghost use mathlib.Core.Path.{_≡_};
 ghost use mathlib.Core.List.{zipWith};
-ghost use Prim.Native.Nat.{ℕ, _-_, _*_, _^_, _<_, _≤_, min};
+ghost use Prim.Native.Nat.{_-_, _*_, _^_, _<_, _≤_, min};
 ghost use lib.ListN.{length};
 ghost use lib.Bits.{bitOr};
+ghost use lib.Count.{trailingZeros};
 ghost use Rattle.bits.specs.Bits.{member, packed, full, lowMask, insert, lessWord, lowestCommon, meets, noneFrom};
 
 // Whether i is in the set.
@@ -55,6 +56,14 @@ pub fn minus_into(dst: &mut [u32], src: &[u32])
     }
 }
 
+// The lowest number in a word; 32 where it has none.
+pub fn lowest_bit(w: u32) -> usize
+    ensures is { λ r. ⌜ r ≡ trailingZeros 32 w ⌝ }
+    ensures within { λ r. ⌜ r ≤ 32 ⌝ }
+{
+    u32::trailing_zeros(w) as usize
+}
+
 // The lowest number in both sets; 32 for each word where there is none.
 pub fn lowest_common(a: &[u32], b: &[u32]) -> usize
     requires { ⌜ length (now a) ≡ length (now b) ⌝ }
@@ -65,7 +74,7 @@ pub fn lowest_common(a: &[u32], b: &[u32]) -> usize
     while i < a.len() {
         let w = a[i] & b[i];
         if w != 0 {
-            return 32 * i + u32::trailing_zeros(w) as usize;
+            return 32 * i + lowest_bit(w);
         }
         i += 1;
     }

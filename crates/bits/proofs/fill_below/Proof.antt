@@ -11,7 +11,9 @@ use Rattle.bits.proofs.fill_below.Statement.{statement}
 use Rattle.bits.proofs.fill_below.Tie as tie
 
 abbrev Inv-loop : tie.InvT-loop
-Inv-loop ws₀ n left₀ i₀ ws left i = (length ws ≡ length ws₀) × (i ≤ length ws) × (left ≡ n - 32 * i) × (ws ≡ written (packed (length ws₀) (full n)) ws₀ i)
+Inv-loop ws₀ n left₀ i₀ ws left i =
+    (length ws ≡ length ws₀) × (i ≤ length ws) × (left ≡ n - 32 * i)
+    × (ws ≡ written (packed (length ws₀) (full n)) ws₀ i)
 
 abbrev μ-loop : tie.MeasureT-loop
 μ-loop ws₀ n left₀ i₀ ws left i = length ws₀ - i
@@ -38,18 +40,19 @@ loop-less : tie.Need-loop-less Inv-loop μ-loop
 loop-less c = search needs
 
 loop-again : tie.Need-loop-again Inv-loop μ-loop
-loop-again c = (
-  simp length-set (omega arith),
-  simp length-set (omega arith),
-  omega arith,
-  fill-turn (c .before .before .before .before .before .args .ws .now) (c .before .before .before .before .before .args .n) _ (c .before .before .before .loop .i) (c .before .before .before .loop .inv .3) (omega arith) _ _ (c .before .before .before .loop .inv .2) (c .before .word-below .ensures),
-)
+loop-again c =
+    let x = c .before .before .before .before .before .args in let l = c .before .before .before .loop in (
+      simp length-set (omega arith),
+      simp length-set (omega arith),
+      omega arith,
+      fill-turn (x .ws .now) (x .n) _ (l .i) (l .inv .3) (omega arith) _ _ (l .inv .2) (c .before .word-below .ensures),
+    )
 
 same-length : tie.Need-same-length Inv-loop μ-loop
 same-length c = search needs
 
 returns : tie.Need-returns Inv-loop μ-loop
-returns c = fill-done (c .before .before .before .args .ws .now) (c .before .before .before .args .n) _ (c .before .loop .i) (c .before .loop .inv .3) (omega arith)
+returns c = let x = c .before .before .before .args in let l = c .before .loop in fill-done (x .ws .now) (x .n) _ (l .i) (l .inv .3) (omega arith)
 
 pub fill-below-spec : {M : Type 1} → statement M
 fill-below-spec =

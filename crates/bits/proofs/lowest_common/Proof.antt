@@ -2,11 +2,11 @@
 -- the lowest of them at its trailing zeros; where no word has one, all are passed. The measure is what is left of the words.
 -- Assumes nothing.
 use borrow.Author.Needs.{needs}
-use Prim.Native.Nat.{_-_, _*_, _≤_}
+use mathlib.Core.Path.{ap, _∙_}
+use Prim.Native.Nat.{ℕ, _+_, _-_, _*_, _≤_}
 use native.Mathlib.Omega.{arith}
-use lib.Bits.{bitAnd, and-lt}
-use lib.Count.{trailing-le}
-use lib.ListN.{length, getD}
+use lib.Bits.{and-lt}
+use lib.ListN.{length}
 use Rattle.bits.proofs.Common.{Apart, apart-start, apart-turn, lowest-found, lowest-none}
 use Rattle.bits.proofs.lowest_common.Statement.{statement}
 use Rattle.bits.proofs.lowest_common.Tie as tie
@@ -35,21 +35,17 @@ shared-slice-read-w-2 c = search needs
 mul-result : tie.Need-mul-result Inv-loop μ-loop
 mul-result c = search needs
 
-cast-result : tie.Need-cast-result Inv-loop μ-loop
-cast-result c =
-    let x = (c .before .before .before .before .before .args) in let i = (c .before .before .before .before .loop .i) in
-    omega (arith, trailing-le 32 (bitAnd (getD (x .a .now) i 0) (getD (x .b .now) i 0)))
+lowest-bit-requires : tie.Need-lowest-bit-requires Inv-loop μ-loop
+lowest-bit-requires c κs = search needs
 
 add-result : tie.Need-add-result Inv-loop μ-loop
-add-result c =
-    let x = (c .before .before .before .before .before .args) in let i = (c .before .before .before .before .loop .i) in
-    omega (arith, trailing-le 32 (bitAnd (getD (x .a .now) i 0) (getD (x .b .now) i 0)))
+add-result c = search needs
 
 returns : tie.Need-returns Inv-loop μ-loop
 returns c =
-    let l = (c .before .before .before .before .loop) in
-    lowest-found _ _ (l .i) (l .inv .1) (omega arith)
-    (and-lt 32 _ _ ((c .before .before .shared-slice-known .given) (l .i) .fits) ((c .before .shared-slice-known2 .given) (l .i) .fits)) (c .if1 .taken)
+    let l = (c .before .before .before .before .before .loop) in let ka = (c .before .before .before .before .before .before .before .shared-slice-known .given) in let kb = (c .before .before .before .before .before .before .shared-slice-known2 .given) in
+    ap (λ (t : ℕ). 32 * l .i + t) (c .lowest-bit .ensures .0)
+    ∙ lowest-found _ _ (l .i) (l .inv .1) (omega arith) (and-lt 32 _ _ (ka (l .i) .fits) (kb (l .i) .fits)) (c .before .if1 .taken)
 
 add-i : tie.Need-add-i Inv-loop μ-loop
 add-i c = search needs
@@ -78,7 +74,7 @@ lowest-common-spec =
     mul-w-2
     shared-slice-read-w-2
     mul-result
-    cast-result
+    lowest-bit-requires
     add-result
     returns
     add-i

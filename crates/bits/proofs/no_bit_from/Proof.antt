@@ -29,8 +29,9 @@ shared-slice-read-if1 c = search needs
 
 returns : tie.Need-returns Inv-loop μ-loop
 returns c =
-    let l = (c .before .before .before .before .loop) in
-    sym (none-fails _ _ (l .i) (l .left) (l .inv .1) ((c .before .shared-slice-known2 .given) (l .i) .fits) (omega (arith, (c .before .before .word-below .ensures), (c .if1 .taken))))
+    let l = c .before .before .before .before .loop in
+    sym (none-fails _ _ (l .i) (l .left) (l .inv .1) (c .before .shared-slice-known2 .given (l .i) .fits)
+    (omega (arith, c .before .before .word-below .ensures, c .if1 .taken)))
 
 past-word-requires : tie.Need-past-word-requires Inv-loop μ-loop
 past-word-requires c κs = search needs
@@ -43,8 +44,11 @@ loop-less c = search needs
 
 loop-again : tie.Need-loop-again Inv-loop μ-loop
 loop-again c =
-    let l = (c .before .before .before .before .before .loop) in
-    (search needs, search needs, clear-turn _ _ (l .i) (l .left) (l .inv .1) (l .inv .2) (omega (arith, (c .before .before .before .word-below .ensures), (c .before .if1 .left))))
+    let l = c .before .before .before .before .before .loop in (
+      search needs,
+      search needs,
+      clear-turn _ _ (l .i) (l .left) (l .inv .1) (l .inv .2) (omega (arith, c .before .before .before .word-below .ensures, c .before .if1 .left)),
+    )
 
 returns-2 : tie.Need-returns-2 Inv-loop μ-loop
 returns-2 c = sym (none-done _ _ _ (c .before .loop .inv .2) (omega arith))

@@ -14,7 +14,7 @@ low-mask-requires-2 : tie.Need-low-mask-requires-2
 low-mask-requires-2 c κs = search needs
 
 returns : tie.Need-returns
-returns c = let e : min (c .before .before .args .n) 32 ≡ (c .before .before .args .n) = omega arith in (c .low-mask .ensures) ∙ sym (ap lowMask e)
+returns c = let n = c .before .before .args .n in let e : min n 32 ≡ n = omega arith in (c .low-mask .ensures) ∙ sym (ap lowMask e)
 
 returns-2 : tie.Need-returns-2
 returns-2 c = let e : min (c .before .before .args .n) 32 ≡ 32 = omega arith in (c .low-mask2 .ensures) ∙ sym (ap lowMask e)
