@@ -11,17 +11,17 @@ use mathlib.Core.Bool.{Bool, true, false, _&&_, false≢true}
 use mathlib.Core.List.{List, [], _∷_}
 use Prim.Native.Nat.{ℕ, zero, suc, _+_, _-_, _*_, _^_, _<_, _≤_}
 use native.Mathlib.Omega.{arith}
-use borrow.Author.Tests.{eqb-true, eqb-false, ltb-true, ltb-false, lt-ltb}
+use borrow.Author.Tests.{ltb-true, lt-ltb}
 use lib.Bits.{bitAnd}
 use lib.Count.{trailingZeros}
-use lib.Dec.{eqb, ltb}
+use lib.Dec.{ltb}
 use lib.ListN.{length, getD}
 use Rattle.meaning.specs.Plain.{if_then_else_}
 use Rattle.meaning.specs.Policy.{Set, holds, meet}
 use Rattle.meaning.specs.Access.{bitOf}
 use Rattle.meaning.proofs.Lists.{bool-cases, same-test, and-both, both-and, holds-below}
 use Rattle.bits.specs.Bits.{member, setIn, common, firstFrom, lowestCommon, meets}
-use Rattle.bits.proofs.Digits.{bit-and, bit-none, trailing-clear, trailing-set, trailing-below}
+use Rattle.bits.proofs.Digits.{below-cases, same-cases, bit-and, bit-none, trailing-clear, trailing-set, trailing-below}
 use Rattle.bits.proofs.Members.{member-at, member-below, length-setIn, holds-setIn}
 
 pub record Apart (a b : List ℕ) (n : ℕ) : Type 0 where
@@ -46,10 +46,9 @@ module _ (p : ℕ → Bool) where
   first-only : (i n r : ℕ) → i ≤ r → r ≤ i + n → (r < i + n → p r ≡ true) → ((k : ℕ) → k < r → p k ≡ false)
       → firstFrom p i n ≡ r
   first-only i zero r l h t c = omega arith
-  first-only i (suc n) r l h t c = bool-cases (eqb i r)
-      (λ e. let q = eqb-true i r e in first-here i n (ap p q ∙ t (omega arith)) ∙ q)
-      (λ e. let d = eqb-false i r e in
-      first-next i n (c i (omega arith)) ∙ first-only (i + 1) n r (omega arith) (omega arith) (λ b. t (omega arith)) c)
+  first-only i (suc n) r l h t c = same-cases i r
+      (λ q. first-here i n (ap p q ∙ t (omega arith)) ∙ q)
+      (λ d. first-next i n (c i (omega arith)) ∙ first-only (i + 1) n r (omega arith) (omega arith) (λ b. t (omega arith)) c)
 
   first-is : (i n : ℕ) → ((k : ℕ) → k < i → p k ≡ false)
       → (firstFrom p i n ≤ i + n) × (firstFrom p i n < i + n → p (firstFrom p i n) ≡ true)
@@ -57,8 +56,7 @@ module _ (p : ℕ → Bool) where
   first-is i zero c = (omega arith, λ h. absurd (omega arith), c)
   first-is i (suc n) c = bool-cases (p i)
       (λ e. rw (first-here i n e) (omega arith, λ h. e, c))
-      (λ e. let r = first-is (i + 1) n (λ k l. bool-cases (eqb k i) (λ t. ap p (eqb-true k i t) ∙ e)
-      (λ t. let d = eqb-false k i t in c k (omega arith))) in
+      (λ e. let r = first-is (i + 1) n (λ k l. same-cases k i (λ q. ap p q ∙ e) (λ d. c k (omega arith))) in
       rw (first-next i n e) (omega arith, λ h. r .1 (omega arith), r .2))
 
 pub lowest-is : (a b : List ℕ) → Lowest a b (lowestCommon a b)
@@ -127,8 +125,7 @@ meets-is n a b h = same-test (meets a b) (meet (setIn n a) (setIn n b))
     (λ e. let r = meet-common n n a b e in both-meets a b (r .0) (r .1))
   where
     in-range : (i : ℕ) → common a b i ≡ true → i < n
-    in-range i e = bool-cases (ltb i n) (ltb-true i n)
-        (λ t. absurd (false≢true (sym (h i (ltb-false i n t)) ∙ and-both (member a i) (member b i) e .0)))
+    in-range i e = below-cases i n (λ l. l) (λ l. absurd (false≢true (sym (h i l) ∙ and-both (member a i) (member b i) e .0)))
 
 pub meets-lowest : (a b : List ℕ) → meets a b ≡ ltb (lowestCommon a b) (32 * length a)
 meets-lowest a b =
@@ -136,9 +133,9 @@ meets-lowest a b =
     same-test (meets a b) (ltb (lowestCommon a b) (32 * length a))
     (λ e. let r = meets-both a b e in
     let l = member-below a (r .0) (and-both (member a (r .0)) (member b (r .0)) (r .1) .0) in
-    bool-cases (ltb (r .0) (lowestCommon a b))
-    (λ t. absurd (false≢true (sym (w .below .clear (r .0) (ltb-true (r .0) (lowestCommon a b) t)) ∙ r .1)))
-    (λ t. let g = ltb-false (r .0) (lowestCommon a b) t in lt-ltb (lowestCommon a b) (32 * length a) (omega arith)))
+    below-cases (r .0) (lowestCommon a b)
+    (λ g. absurd (false≢true (sym (w .below .clear (r .0) g) ∙ r .1)))
+    (λ g. lt-ltb (lowestCommon a b) (32 * length a) (omega arith)))
     (λ e. both-meets a b (lowestCommon a b) (w .found (ltb-true (lowestCommon a b) (32 * length a) e)))
 
 -- ---- the search, word by word
@@ -155,8 +152,8 @@ module _ (a b : List ℕ) where
         → Apart a b (32 * i + t)
     apart-more h t l f =
         record {
-          clear = λ k m. bool-cases (ltb k (32 * i)) (λ c. h .clear k (ltb-true k (32 * i) c))
-              (λ c. let g = ltb-false k (32 * i) c in let e : 32 * i + (k - 32 * i) ≡ k = omega arith in
+          clear = λ k m. below-cases k (32 * i) (h .clear k)
+              (λ g. let e : 32 * i + (k - 32 * i) ≡ k = omega arith in
               ap (common a b) (sym e) ∙ common-at (k - 32 * i) (omega arith) ∙ f (k - 32 * i) (omega arith));
         }
 

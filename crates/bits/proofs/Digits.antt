@@ -3,6 +3,7 @@
 --   bits-ext                             a number is known by its bits; bits-below: and its size by where they end
 --   number-bit, number-below             the number that a set makes
 --   trailing-..                          where the lowest bit stands
+--   below-cases, same-cases              a case of two numbers' order, for all files here
 -- Bit 0 is x % 2, and bit i + 1 of x is bit i of x / 2 (bit-zero, bit-suc): each law is by induction on that.
 -- Assumes nothing.
 use mathlib.Core.Path.{_≡_, refl, sym, ap, _∙_}
@@ -13,7 +14,7 @@ use native.Mathlib.Nat.{le-of-suc-le-suc, not-suc-le-zero, lt-of-lt-of-le, lt-of
 use native.Mathlib.Nat.{mod-lt, zero-div, div-one, div-eq-of-lt, div-le-self, div-lt-iff-lt-mul, mul-mod-left, mul-div-cancel}
 use native.Mathlib.Numerals.{one-add}
 use native.Mathlib.Omega.{arith}
-use borrow.Author.Tests.{eq-eqb, ltb-true, ltb-false}
+use borrow.Author.Tests.{eq-eqb, eqb-true, eqb-false, ltb-true, ltb-false}
 use lib.Arith.{digits-mod}
 use lib.Bits.{bitAnd, bitOr, bitXor, differ, and-step, or-step, xor-step, and-shr, or-shr, xor-shr}
 use lib.Count.{trailingZeros, under}
@@ -25,6 +26,13 @@ use Rattle.meaning.specs.Policy.{Set, holds}
 use Rattle.meaning.specs.Access.{number, bitOf}
 use Rattle.meaning.proofs.Lists.{bool-cases}
 use Rattle.bits.specs.Bits.{full, lowMask, less, lessWord}
+
+-- ---- a number is below another or not, and is another or not
+pub below-cases : {P : Type 0} (i n : ℕ) → (i < n → P) → (n ≤ i → P) → P
+below-cases i n f g = bool-cases (ltb i n) (λ t. f (ltb-true i n t)) (λ t. g (ltb-false i n t))
+
+pub same-cases : {P : Type 0} (i j : ℕ) → (i ≡ j → P) → ((i ≡ j → ⊥) → P) → P
+same-cases i j f g = bool-cases (eqb i j) (λ t. f (eqb-true i j t)) (λ t. g (eqb-false i j t))
 
 -- ---- two numbers, bit by bit
 -- a law of two digits is one of the four pairs
@@ -161,6 +169,5 @@ trailing-set (suc k) x h = go (x % 2) refl h (trailing-set k (x / 2)) where
   go (suc d) e h f = let l : x % 2 < 2 = mod-lt x (lit< tt) in bit-zero x ∙ eq-eqb (x % 2) 1 (omega arith)
 
 pub trailing-below : (k x : ℕ) → x < 2 ^ k → (x ≡ 0 → ⊥) → trailingZeros k x < k
-trailing-below k x h n = bool-cases (ltb (trailingZeros k x) k) (ltb-true (trailingZeros k x) k)
-    (λ e. let l : k ≤ trailingZeros k x = ltb-false (trailingZeros k x) k e in
-    absurd (n (bits-ext k x 0 h (pow-pos k) (λ i b. trailing-clear k x i (omega arith) ∙ sym (bit-none i)))))
+trailing-below k x h n = below-cases (trailingZeros k x) k (λ l. l)
+    (λ l. absurd (n (bits-ext k x 0 h (pow-pos k) (λ i b. trailing-clear k x i (omega arith) ∙ sym (bit-none i)))))

@@ -11,16 +11,15 @@ use mathlib.Core.List.{List, _∷_}
 use Prim.Native.Nat.{ℕ, zero, suc, _+_, _-_, _*_, _/_, _%_, _<_, _≤_, min}
 use native.Mathlib.Nat.{not-suc-le-zero, le-of-suc-le-suc, lt-of-lt-of-le, min-le-left, sub-zero}
 use native.Mathlib.Omega.{arith}
-use borrow.Author.Tests.{ltb-true, ltb-false}
+use borrow.Author.Tests.{lt-ltb, le-ltb}
 use lib.Dec.{ltb, lit<}
 use lib.ListN.{length, getD, take, drop, length-take, length-replicate, getD-replicate, List·getD-eq-default}
 use lib.Pow.{pow-mono}
 use lib.Seq.{getD-take, getD-drop, drop-drop}
 use Rattle.meaning.specs.Policy.{Set, holds}
 use Rattle.meaning.specs.Access.{number, bitOf}
-use Rattle.meaning.proofs.Lists.{bool-cases}
 use Rattle.bits.specs.Bits.{member, setIn, packed, full, Words, lowMask}
-use Rattle.bits.proofs.Digits.{number-bit, number-below, number-full}
+use Rattle.bits.proofs.Digits.{below-cases, number-bit, number-below, number-full}
 use Rattle.bits.proofs.Members.{member-past, words-ext, length-setIn, holds-setIn, setIn-is}
 
 pub length-packed : (k : ℕ) (x : Set) → length (packed k x) ≡ k
@@ -57,8 +56,8 @@ member-packed k x i h =
 
 -- where there is room for all of the set, past the words too
 pub member-kept : (k : ℕ) (x : Set) → length x ≤ 32 * k → (i : ℕ) → member (packed k x) i ≡ holds x i
-member-kept k x l i = bool-cases (ltb i (32 * k)) (λ t. member-packed k x i (ltb-true i (32 * k) t))
-    (λ t. let h = ltb-false i (32 * k) t in let p = length-packed k x in
+member-kept k x l i = below-cases i (32 * k) (member-packed k x i)
+    (λ h. let p = length-packed k x in
     member-past (packed k x) i (omega arith) ∙ sym (List·getD-eq-default x false (omega arith)))
 
 -- ---- there and back
@@ -70,8 +69,8 @@ pub packed-setIn : (n : ℕ) (ws : List ℕ) → Words ws → ((i : ℕ) → n �
 packed-setIn n ws w e =
     let p = length-packed (length ws) (setIn n ws) in
     words-ext (packed (length ws) (setIn n ws)) ws (words-packed (length ws) (setIn n ws)) w p
-    (λ i h. member-packed (length ws) (setIn n ws) i (omega arith) ∙ bool-cases (ltb i n) (λ t. holds-setIn n ws i (ltb-true i n t))
-    (λ t. let l = ltb-false i n t in let s = length-setIn n ws in
+    (λ i h. member-packed (length ws) (setIn n ws) i (omega arith) ∙ below-cases i n (holds-setIn n ws i)
+    (λ l. let s = length-setIn n ws in
     List·getD-eq-default (setIn n ws) false (omega arith) ∙ sym (e i l)))
 
 -- ---- all numbers below n
@@ -95,9 +94,9 @@ full-at k n j h =
 pub member-fill : (k n i : ℕ) → n ≤ 32 * k → member (packed k (full n)) i ≡ ltb i n
 member-fill k n i h =
     let l = length-replicate n true in
-    member-kept k (full n) (omega arith) i ∙ bool-cases (ltb i n)
-    (λ t. getD-replicate n i true false (ltb-true i n t) ∙ sym t)
-    (λ t. let b = ltb-false i n t in List·getD-eq-default (full n) false (omega arith) ∙ sym t)
+    member-kept k (full n) (omega arith) i ∙ below-cases i n
+    (λ b. getD-replicate n i true false b ∙ sym (lt-ltb i n b))
+    (λ b. List·getD-eq-default (full n) false (omega arith) ∙ sym (le-ltb i n b))
 
 pub setIn-fill : (k n : ℕ) → n ≤ 32 * k → setIn n (packed k (full n)) ≡ full n
 setIn-fill k n h = let l = length-replicate n true in rw l at (setIn-packed k (full n) (omega arith))

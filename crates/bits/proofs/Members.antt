@@ -11,17 +11,17 @@ use mathlib.Core.List.{List, [], _∷_, zipWith}
 use Prim.Native.Nat.{ℕ, zero, suc, _+_, _-_, _*_, _/_, _%_, _^_, _<_, _≤_}
 use native.Mathlib.Nat.{le-of-suc-le-suc, not-suc-le-zero, add-zero, zero-add}
 use native.Mathlib.Omega.{arith}
-use borrow.Author.Tests.{eq-eqb, ne-eqb, eqb-true, eqb-false, ltb-true, ltb-false, not-true}
+use borrow.Author.Tests.{eq-eqb, ne-eqb, eqb-true, not-true}
 use lib.Bits.{bitOr}
-use lib.Dec.{eqb, ltb, eqb·zero-suc, eqb·suc-zero, eqb·suc-suc}
+use lib.Dec.{eqb, eqb·zero-suc, eqb·suc-zero, eqb·suc-suc}
 use lib.ListN.{length, getD, set, length-set, List·getD-eq-default}
 use lib.Seq.{ext-getD, getD-set-same, getD-set-other}
 use Rattle.meaning.specs.Plain.{if_then_else_, every, numbers, upTo}
 use Rattle.meaning.specs.Policy.{Set, holds}
 use Rattle.meaning.specs.Access.{bitOf}
-use Rattle.meaning.proofs.Lists.{bool-cases, same-test, length-each, getD-each}
+use Rattle.meaning.proofs.Lists.{same-test, length-each, getD-each}
 use Rattle.bits.specs.Bits.{member, setIn, Words, insert, less, lessWord, noneFrom}
-use Rattle.bits.proofs.Digits.{bit-or, bit-less, bit-none, bit-pow, bits-ext}
+use Rattle.bits.proofs.Digits.{below-cases, same-cases, bit-or, bit-less, bit-none, bit-pow, bits-ext}
 
 -- ---- members
 pub member-at : (ws : List ℕ) (k j : ℕ) → j < 32 → member ws (32 * k + j) ≡ bitOf (getD ws k 0) j
@@ -36,8 +36,7 @@ unfolding member
 member-past ws i h = ap (λ (x : ℕ). bitOf x (i % 32)) (List·getD-eq-default ws 0 (omega arith)) ∙ bit-none (i % 32)
 
 pub member-below : (ws : List ℕ) (i : ℕ) → member ws i ≡ true → i < 32 * length ws
-member-below ws i e = bool-cases (ltb i (32 * length ws)) (ltb-true i (32 * length ws))
-    (λ f. absurd (false≢true (sym (member-past ws i (ltb-false i (32 * length ws) f)) ∙ e)))
+member-below ws i e = below-cases i (32 * length ws) (λ l. l) (λ l. absurd (false≢true (sym (member-past ws i l) ∙ e)))
 
 pub words-ext : (a b : List ℕ) → Words a → Words b → length a ≡ length b
     → ((i : ℕ) → i < 32 * length a → member a i ≡ member b i) → a ≡ b
@@ -72,13 +71,11 @@ setIn-is n ws x e h =
 -- ---- one number put in
 pub member-insert : (ws : List ℕ) (i j : ℕ) → i < 32 * length ws → member (insert ws i) j ≡ (member ws j || eqb i j)
 unfolding member insert
-member-insert ws i j h = bool-cases (eqb (j / 32) (i / 32))
-    (λ t. let e : j / 32 ≡ i / 32 = eqb-true (j / 32) (i / 32) t in
-    ap (λ (x : ℕ). bitOf x (j % 32)) (ap (λ (k : ℕ). getD (set ws (i / 32) w) k 0) e ∙ getD-set-same ws (i / 32) w 0 (omega arith))
+member-insert ws i j h = same-cases (j / 32) (i / 32)
+    (λ e. ap (λ (x : ℕ). bitOf x (j % 32)) (ap (λ (k : ℕ). getD (set ws (i / 32) w) k 0) e ∙ getD-set-same ws (i / 32) w 0 (omega arith))
     ∙ bit-or (getD ws (i / 32) 0) (2 ^ (i % 32)) (j % 32)
     ∙ ap₂ _||_ (ap (λ (k : ℕ). bitOf (getD ws k 0) (j % 32)) (sym e)) (bit-pow (i % 32) (j % 32) ∙ same-number e))
-    (λ t. let n : j / 32 ≡ i / 32 → ⊥ = eqb-false (j / 32) (i / 32) t in
-    ap (λ (x : ℕ). bitOf x (j % 32)) (getD-set-other ws (i / 32) (j / 32) w 0 n)
+    (λ n. ap (λ (x : ℕ). bitOf x (j % 32)) (getD-set-other ws (i / 32) (j / 32) w 0 n)
     ∙ sym (or-false (member ws j)) ∙ ap (λ (b : Bool). member ws j || b) (sym (ne-eqb i j (λ q. n (omega arith)))))
   where
     w : ℕ
@@ -123,10 +120,9 @@ module _ (f : ℕ → ℕ → ℕ) (g : Bool → Bool → Bool) (none : g false 
     (bit : (a b i : ℕ) → bitOf (f a b) i ≡ g (bitOf a i) (bitOf b i)) (a b : List ℕ) (e : length a ≡ length b) where
   member-zip : (i : ℕ) → member (zipWith f a b) i ≡ g (member a i) (member b i)
   unfolding member
-  member-zip i = bool-cases (ltb (i / 32) (length a))
-      (λ t. ap (λ (x : ℕ). bitOf x (i % 32)) (zip-at f 0 a b (i / 32) e (ltb-true (i / 32) (length a) t))
-      ∙ bit (getD a (i / 32) 0) (getD b (i / 32) 0) (i % 32))
-      (λ t. let l = ltb-false (i / 32) (length a) t in let z = length-zip f a b e in
+  member-zip i = below-cases (i / 32) (length a)
+      (λ l. ap (λ (x : ℕ). bitOf x (i % 32)) (zip-at f 0 a b (i / 32) e l) ∙ bit (getD a (i / 32) 0) (getD b (i / 32) 0) (i % 32))
+      (λ l. let z = length-zip f a b e in
       member-past (zipWith f a b) i (omega arith)
       ∙ sym (ap₂ g (member-past a i (omega arith)) (member-past b i (omega arith)) ∙ none))
 
@@ -158,10 +154,9 @@ if-both false r e = absurd (false≢true e)
 
 every-numbers : (p : ℕ → Bool) (i n : ℕ) → every p (numbers i n) ≡ true → (k : ℕ) → i ≤ k → k < i + n → p k ≡ true
 every-numbers p i zero e k l h = absurd (omega arith)
-every-numbers p i (suc n) e k l h = bool-cases (eqb k i)
-    (λ t. ap p (eqb-true k i t) ∙ if-both (p i) (every p (numbers (i + 1) n)) e .0)
-    (λ t. let d = eqb-false k i t in
-    every-numbers p (i + 1) n (if-both (p i) (every p (numbers (i + 1) n)) e .1) k (omega arith) (omega arith))
+every-numbers p i (suc n) e k l h =
+    let b = if-both (p i) (every p (numbers (i + 1) n)) e in
+    same-cases k i (λ q. ap p q ∙ b .0) (λ d. every-numbers p (i + 1) n (b .1) k (omega arith) (omega arith))
 
 numbers-every : (p : ℕ → Bool) (i n : ℕ) → ((k : ℕ) → i ≤ k → k < i + n → p k ≡ true) → every p (numbers i n) ≡ true
 numbers-every p i zero h = refl
@@ -170,10 +165,9 @@ numbers-every p i (suc n) h =
 
 pub none-from : (n : ℕ) (ws : List ℕ) → noneFrom n ws ≡ true → (i : ℕ) → n ≤ i → member ws i ≡ false
 unfolding noneFrom
-none-from n ws e i h = bool-cases (ltb i (32 * length ws))
-    (λ t. let l = ltb-true i (32 * length ws) t in
-    not-true (member ws i) (every-numbers (λ i. not (member ws i)) n (32 * length ws - n) e i h (omega arith)))
-    (λ t. member-past ws i (ltb-false i (32 * length ws) t))
+none-from n ws e i h = below-cases i (32 * length ws)
+    (λ l. not-true (member ws i) (every-numbers (λ i. not (member ws i)) n (32 * length ws - n) e i h (omega arith)))
+    (member-past ws i)
 
 pub from-none : (n : ℕ) (ws : List ℕ) → ((i : ℕ) → n ≤ i → i < 32 * length ws → member ws i ≡ false) → noneFrom n ws ≡ true
 unfolding noneFrom

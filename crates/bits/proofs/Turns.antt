@@ -10,14 +10,12 @@ use Prim.Native.Nat.{ℕ, suc, _+_, _-_, _*_, _^_, _<_, _≤_, min}
 use native.Mathlib.Nat.{zero-add, not-le-of-lt}
 use native.Mathlib.Numerals.{add-one}
 use native.Mathlib.Omega.{arith}
-use borrow.Author.Tests.{ltb-true, ltb-false}
-use lib.Dec.{ltb}
 use lib.ListN.{length, getD, take, drop, set, drop-of-length-le}
 use lib.Pow.{le-ones, lt-of-le-ones}
 use lib.Seq.{drop-cons, getD-at, length-take-le, paste-suc, take-all}
 use Rattle.meaning.proofs.Lists.{bool-cases}
 use Rattle.bits.specs.Bits.{member, packed, full, lowMask, noneFrom}
-use Rattle.bits.proofs.Digits.{bit-above, bits-below}
+use Rattle.bits.proofs.Digits.{below-cases, bit-above, bits-below}
 use Rattle.bits.proofs.Members.{member-at, length-zip, zip-at, none-from, from-none}
 use Rattle.bits.proofs.Kept.{length-packed, full-at}
 
@@ -68,8 +66,8 @@ module _ (n : ℕ) (ws : List ℕ) (i left : ℕ) (e : left ≡ n - 32 * i) wher
   pub clear-turn : Clear n ws (32 * i) → getD ws i 0 ≤ lowMask (min left 32) → Clear n ws (32 * (i + 1))
   clear-turn c h =
       record {
-        clear = λ k l m. bool-cases (ltb k (32 * i)) (λ t. c .clear k l (ltb-true k (32 * i) t))
-            (λ t. let g = ltb-false k (32 * i) t in let q : 32 * i + (k - 32 * i) ≡ k = omega arith in
+        clear = λ k l m. below-cases k (32 * i) (c .clear k l)
+            (λ g. let q : 32 * i + (k - 32 * i) ≡ k = omega arith in
             ap (member ws) (sym q) ∙ member-at ws i (k - 32 * i) (omega arith)
             ∙ bit-above (getD ws i 0) (min left 32) (k - 32 * i) (lt-of-le-ones (min left 32) h) (omega arith));
       }
@@ -77,9 +75,8 @@ module _ (n : ℕ) (ws : List ℕ) (i left : ℕ) (e : left ≡ n - 32 * i) wher
   pub none-fails : getD ws i 0 < 2 ^ 32 → lowMask (min left 32) < getD ws i 0 → noneFrom n ws ≡ false
   none-fails w h = bool-cases (noneFrom n ws)
       (λ t. absurd (not-le-of-lt h (le-ones (min left 32) (bits-below 32 (getD ws i 0) (min left 32) w
-      (λ j l. bool-cases (ltb j 32)
-      (λ b. let g = ltb-true j 32 b in sym (member-at ws i j g) ∙ none-from n ws t (32 * i + j) (omega arith))
-      (λ b. bit-above (getD ws i 0) 32 j w (ltb-false j 32 b)))))))
+      (λ j l. below-cases j 32 (λ g. sym (member-at ws i j g) ∙ none-from n ws t (32 * i + j) (omega arith))
+      (bit-above (getD ws i 0) 32 j w))))))
       (λ t. t)
 
 pub none-done : (n : ℕ) (ws : List ℕ) (i : ℕ) → Clear n ws (32 * i) → length ws ≤ i → noneFrom n ws ≡ true
