@@ -19,7 +19,7 @@ use lib.Seq.{ext-getD, getD-set-same, getD-set-other}
 use Rattle.meaning.specs.Plain.{if_then_else_, every, numbers, upTo}
 use Rattle.meaning.specs.Policy.{Set, holds}
 use Rattle.meaning.specs.Access.{bitOf}
-use Rattle.meaning.proofs.Lists.{same-test, length-each, getD-each}
+use Rattle.meaning.proofs.Lists.{same-test, length-each, getD-each, if-both}
 use Rattle.bits.specs.Bits.{member, setIn, Words, insert, less, lessWord, noneFrom}
 use Rattle.bits.proofs.Digits.{below-cases, same-cases, bit-or, bit-less, bit-none, bit-pow, bits-ext}
 
@@ -148,10 +148,6 @@ module _ (a b : List ℕ) (e : length a ≡ length b) where
   setIn-less = setIn-zip lessWord less refl bit-less a b e
 
 -- ---- no number from n on
-if-both : (b r : Bool) → (if b then r else false) ≡ true → (b ≡ true) × (r ≡ true)
-if-both true r e = (refl, e)
-if-both false r e = absurd (false≢true e)
-
 every-numbers : (p : ℕ → Bool) (i n : ℕ) → every p (numbers i n) ≡ true → (k : ℕ) → i ≤ k → k < i + n → p k ≡ true
 every-numbers p i zero e k l h = absurd (omega arith)
 every-numbers p i (suc n) e k l h =
