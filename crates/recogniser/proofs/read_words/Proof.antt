@@ -29,8 +29,9 @@ finish-requires c κs = c .before .before .before .loop .inv .state
 
 returns : tie.Need-returns Inv-loop μ-loop
 returns c =
-    let o = c .before .before .before .before .loop in
-    c .finish .ensures (o .totals) ∙ ap ofVerdict (reached-end _ _ _ _ (o .inv) _ (c .before .before .before .word-at .ensures .0) (c .before .if1 .taken))
+    let found = c .before .before .before in
+    let o = found .before .loop in
+    c .finish .ensures (o .totals) ∙ ap ofVerdict (reached-end _ _ _ _ (o .inv) _ (found .word-at .ensures .0) (c .before .if1 .taken))
 
 take-requires : tie.Need-take-requires Inv-loop μ-loop
 take-requires c κs =
@@ -40,18 +41,23 @@ take-requires c κs =
 
 returns-2 : tie.Need-returns-2 Inv-loop μ-loop
 returns-2 c =
-    let w = c .before .before .before .before .before .before .before .word-at .ensures .0 in
-    reached-stop _ _ _ _ (c .before .before .before .before .before .before .before .before .loop .inv) _ w (c .before .before .before .before .before .if1 .left) _ _ (c .before .before .before .take .ensures _ w) (c .if2 .taken)
+    let go = c .before .before .before .before .before in
+    let o = go .before .before .before .loop .inv in
+    let w = go .before .before .word-at .ensures .0 in
+    reached-stop _ _ _ _ o _ w (go .if1 .left) _ _ (c .before .before .before .take .ensures _ w) (c .if2 .taken)
 
 loop-less : tie.Need-loop-less Inv-loop μ-loop
 loop-less c =
-    let w = c .before .before .before .before .before .before .before .word-at .ensures .1 in
-    omega (arith, w .onward (c .before .before .before .before .before .if1 .left), w .inside (c .before .before .before .before .before .before .before .before .loop .inv .within))
+    let go = c .before .before .before .before .before in
+    let w = go .before .before .word-at .ensures .1 in
+    omega (arith, w .onward (go .if1 .left), w .inside (go .before .before .before .loop .inv .within))
 
 loop-again : tie.Need-loop-again Inv-loop μ-loop
 loop-again c =
-    let w = c .before .before .before .before .before .before .before .word-at .ensures in
-    reached-next _ _ _ _ (c .before .before .before .before .before .before .before .before .loop .inv) _ (w .0) (c .before .before .before .before .before .if1 .left) _ _ (c .before .before .before .take .ensures _ (w .0)) (w .1) (c .if2 .left)
+    let go = c .before .before .before .before .before in
+    let o = go .before .before .before .loop .inv in
+    let w = go .before .before .word-at .ensures in
+    reached-next _ _ _ _ o _ (w .0) (go .if1 .left) _ _ (c .before .before .before .take .ensures _ (w .0)) (w .1) (c .if2 .left)
 
 pub read-words-spec : {M : Type 1} → statement M
 read-words-spec =

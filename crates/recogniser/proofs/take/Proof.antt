@@ -12,7 +12,8 @@ step-requires c κs = search needs
 
 returns : tie.Need-returns
 returns c =
-    λ x e. taken-three _ _ _ x e _ _ (c .before .before .before .step .ensures) _ _ (c .before .if1 .taken) (c .refused .ensures .0) (c .refused .ensures .1)
+    let no = c .refused .ensures in
+    λ x e. taken-three _ _ _ x e _ _ (c .before .before .before .step .ensures) _ _ (c .before .if1 .taken) (no .0) (no .1)
 
 count-requires : tie.Need-count-requires
 count-requires c κs = search needs
@@ -22,14 +23,17 @@ sub-exceeds c = search needs
 
 returns-2 : tie.Need-returns-2
 returns-2 c =
+    let no = c .refused2 .ensures in
     let o = c .before .before .before in
-    λ x e. taken-seven _ _ _ x e _ _ (o .before .before .before .before .before .before .before .step .ensures) _ _ _ (o .before .before .before .before .before .if1 .left) (o .before .before .before .count .ensures) _ (o .exceeds .ensures)
-    (c .before .before .if2 .taken) (c .refused2 .ensures .0) (λ y k q. c .refused2 .ensures .1 ∙ c .before .place-of .ensures y k q)
+    let go = o .before .before .before .before .before in
+    λ x e. taken-seven _ _ _ x e _ _ (go .before .before .step .ensures) _ _ _ (go .if1 .left) (o .before .before .before .count .ensures) _ (o .exceeds .ensures)
+    (c .before .before .if2 .taken) (no .0) (λ y k q. no .1 ∙ c .before .place-of .ensures y k q)
 
 returns-3 : tie.Need-returns-3
 returns-3 c =
     let o = c .before .before in
-    λ x e. taken-on _ _ _ x e _ _ (o .before .before .before .before .before .before .before .step .ensures) _ _ _ (o .before .before .before .before .before .if1 .left) (o .before .before .before .count .ensures) _ (o .exceeds .ensures)
+    let go = o .before .before .before .before .before in
+    λ x e. taken-on _ _ _ x e _ _ (go .before .before .step .ensures) _ _ _ (go .if1 .left) (o .before .before .before .count .ensures) _ (o .exceeds .ensures)
     (c .before .if2 .left) refl refl refl refl (c .step2 .ensures) refl
 
 pub take-spec : {M : Type 1} → statement M
