@@ -40,7 +40,11 @@ fn number(head: &[u8]) -> usize
     requires { ⌜ 6 ≤ length (now head) ⌝ }
     ensures { λ r. ⌜ r < 100000 ⌝ }
 {
-    digit(head[0]) * 10000 + digit(head[1]) * 1000 + digit(head[2]) * 100 + digit(head[3]) * 10 + digit(head[4])
+    digit(head[0]) * 10000
+        + digit(head[1]) * 1000
+        + digit(head[2]) * 100
+        + digit(head[3]) * 10
+        + digit(head[4])
 }
 
 // One text, and its line.
@@ -78,8 +82,13 @@ fn run(all: &[u8]) {
     }
 }
 
+// The file's texts; `all` is room for them.
+fn work(all: &mut [u8]) {
+    let n = read_cases(all);
+    run(&all[0..n]);
+}
+
 fn main() {
     let mut all = [0u8; ROOM];
-    let n = read_cases(&mut all);
-    run(&all[0..n]);
+    work(&mut all);
 }
