@@ -15,7 +15,7 @@ use Rattle.meaning.specs.Statements.{Item, Statement, part, namesAt, ofF
 use Rattle.meaning.specs.Names.{firstText, usesAt, aType, dType, dAlias}
 use Rattle.meaning.specs.Sets.{Alias, namesOf, aliasesBy, typeNamed}
 use Rattle.meaning.specs.Rules.{typeNumber, Bound, boundsBy, boundsOf}
-use Rattle.meaning.proofs.Lists.{bool-cases, or-cases, bytes-same, Among, here, there, keep-among, among-keep, each-among, joined-among}
+use Rattle.meaning.proofs.Lists.{bool-cases, or-cases, if-among, bytes-same, Among, here, there, keep-among, among-keep, each-among, joined-among}
 use Rattle.meaning.proofs.Accepted.{NoEarlier, statementsIn, namesIn}
 use Rattle.meaning.proofs.Seats.{due, paid, namesOnly}
 use Rattle.meaning.proofs.Forms.{plainForm}
@@ -108,12 +108,9 @@ module _ (s : List ℕ) (c : NoEarlier s) where
   unfolding aliasesBy
   alias-typed m =
       let (st, mst, ma) = joined-among aliasesBy ss m in
-      bool-cases (eqb (st .form) kType || eqb (st .form) kTypealias)
-      (λ e. let r = each-among _ (namesAt pThird st) (rw (e, aliasesBy) at ma) in rw (r .2) (type-of mst e))
-      (λ e. nothing (rw (e, aliasesBy) at ma))
-    where
-      nothing : {P : Type 0} {a : Alias} → Among a [] → P
-      nothing m = elim m [ ]
+      let (e, mi) = if-among (eqb (st .form) kType || eqb (st .form) kTypealias) _ ma in
+      let r = each-among _ (namesAt pThird st) mi in
+      rw (r .2) (type-of mst e)
 
   -- A type's name or an alias has the number of a type.
   pub type-below : (x : List ℕ) → Found ss aType x → typeNumber (namesIn s) x < length (namesIn s .types)

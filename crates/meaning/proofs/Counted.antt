@@ -3,7 +3,7 @@
 -- one that the reading counts (`pays`); so what is left of the limit bounds the shares still to come (`shares`).
 -- Assumes nothing.
 use mathlib.Core.Path.{_≡_, refl, sym, _∙_}
-use mathlib.Core.Bool.{Bool, true, false, not, _&&_, _||_, false≢true}
+use mathlib.Core.Bool.{Bool, true, false, not, _&&_, _||_, false≢true, and-false}
 use mathlib.Core.List.{List}
 use Prim.Native.Nat.{ℕ, _+_, _-_, _≤_, _<_}
 use native.Mathlib.Omega.{arith}
@@ -18,7 +18,7 @@ use Rattle.meaning.specs.Statements.{formAt, Gathered, pFirst, pSecond, 
 use Rattle.meaning.specs.Sizes.{limits, nameCount, formCount, countOf, Counts, noCounts, counted, cIfs, cNone}
 use Rattle.meaning.specs.Keywords.{kClass, kCommon, kIf}
 use Rattle.meaning.proofs.Lists.{bool-cases, and-both, or-cases}
-use Rattle.meaning.proofs.Lengths.{if-all, and-false, oneIf, one-le, sum, keep-if, keep-le}
+use Rattle.meaning.proofs.Lengths.{if-all, oneIf, one-le, sum, keep-if, keep-le}
 use Rattle.meaning.proofs.Steps.{active, active-starts, starts-ends, ends-silent, Form, none, own, perms, types, roles}
 use Rattle.meaning.proofs.Steps.{form-keyword}
 use Rattle.meaning.proofs.Passed.{Fine, Passed, done, begins, goes, tail-cases, form-of}

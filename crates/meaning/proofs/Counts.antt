@@ -5,7 +5,7 @@
 -- The numbers are those of `limits`; roles are one more, with `object_r`.
 -- Assumes nothing.
 use mathlib.Core.Path.{_≡_, refl, sym, ap, _∙_}
-use mathlib.Core.Bool.{Bool, true, false, _||_, false≢true}
+use mathlib.Core.Bool.{Bool, true, false, _||_, false≢true, and-false}
 use mathlib.Core.List.{List, [], _∷_}
 use Prim.Native.Nat.{ℕ, suc, _+_, _≤_}
 use native.Mathlib.Omega.{arith}
@@ -29,7 +29,7 @@ use Rattle.meaning.specs.Rules.{ifOf, constrainOf, constraintWords, read
 use Rattle.meaning.specs.Keywords.{kType, kTypealias, kBool, kRoleTransition, kTypeTransition, kTypeMember, kAllow, kIf}
 use Rattle.meaning.specs.Keywords.{kUser, kConstrain, kRoleAllow, isAv, isTypeRule}
 use Rattle.meaning.proofs.Lists.{and-both, or-cases, length-each}
-use Rattle.meaning.proofs.Lengths.{and-false, oneIf, All, all-of, all-keep, all-each}
+use Rattle.meaning.proofs.Lengths.{oneIf, All, all-of, all-keep, all-each}
 use Rattle.meaning.proofs.Lengths.{keep-two, joined-each}
 use Rattle.meaning.proofs.Passed.{Passed, text-passed}
 use Rattle.meaning.proofs.Counted.{limit, wholeCount}
@@ -40,43 +40,44 @@ use Rattle.meaning.proofs.Held.{classes-fit}
 use Rattle.meaning.proofs.Limits.{at-within, forms-within, names-within, single-within, kept-within, names-le, home}
 use Rattle.meaning.proofs.Single.{single}
 
-abbrev pub policyIn : List Statement → Policy
-policyIn ss = policyOf (namesOf ss) ss
+-- the policy that statements make
+abbrev pub saidBy : List Statement → Policy
+saidBy ss = policyOf (namesOf ss) ss
 
 -- the sizes of 01, of the names and the policy of a text with the statements ss
 pub record Within (ss : List Statement) : Type 0 where
-  pub types : length (policyIn ss .types) ≤ limit cTypes
+  pub types : length (saidBy ss .types) ≤ limit cTypes
   pub attributes : length (namesOf ss .attributes) ≤ limit cAttributes
-  pub aliases : length (policyIn ss .aliases) ≤ limit cAliases
-  pub classes : length (policyIn ss .classes) ≤ limit cClasses
+  pub aliases : length (saidBy ss .aliases) ≤ limit cAliases
+  pub classes : length (saidBy ss .classes) ≤ limit cClasses
   pub commons : length (ofKind dCommon (declared ss)) ≤ limit cCommons
-  pub roles : length (policyIn ss .roles) ≤ limit cRoles + 1
-  pub users : length (policyIn ss .users) ≤ limit cUsers
-  pub bools : length (policyIn ss .bools) ≤ limit cBools
-  pub perms : All (λ c. length (c .perms) ≤ ownPermissions) (policyIn ss .classes)
-  pub ifs : length (policyIn ss .ifs) ≤ limit cIfs
-  pub rows : length (policyIn ss .rows) ≤ limit cAvRows
-  pub typeRows : length (policyIn ss .typeRows) ≤ limit cTypeRows
-  pub roleRules : length (policyIn ss .roleAllows) + length (policyIn ss .roleTransitions) ≤ limit cRoleRules
-  pub constrains : length (policyIn ss .constrains) ≤ limit cConstrains
+  pub roles : length (saidBy ss .roles) ≤ limit cRoles + 1
+  pub users : length (saidBy ss .users) ≤ limit cUsers
+  pub bools : length (saidBy ss .bools) ≤ limit cBools
+  pub perms : All (λ c. length (c .perms) ≤ ownPermissions) (saidBy ss .classes)
+  pub ifs : length (saidBy ss .ifs) ≤ limit cIfs
+  pub rows : length (saidBy ss .rows) ≤ limit cAvRows
+  pub typeRows : length (saidBy ss .typeRows) ≤ limit cTypeRows
+  pub roleRules : length (saidBy ss .roleAllows) + length (saidBy ss .roleTransitions) ≤ limit cRoleRules
+  pub constrains : length (saidBy ss .constrains) ≤ limit cConstrains
   -- the words of expressions, and what is kept of them
   pub ifWords : All (λ s. length (part pTest s) ≤ expressionWords) (ofForm kIf ss)
-  pub ifCodes : All (λ c. length c ≤ expressionWords) (policyIn ss .ifs)
+  pub ifCodes : All (λ c. length c ≤ expressionWords) (saidBy ss .ifs)
   pub constrainWords : All (λ s. length (constraintWords s) ≤ expressionWords) (ofForm kConstrain ss)
-  pub constrainCodes : All (λ c. length (c .test) ≤ expressionWords) (policyIn ss .constrains)
+  pub constrainCodes : All (λ c. length (c .test) ≤ expressionWords) (saidBy ss .constrains)
   -- the lists that numbers and sets are counted through
   pub typeNames : length (namesOf ss .types) ≤ limit cTypes
   pub roleNames : length (namesOf ss .roles) ≤ limit cRoles + 1
   pub userNames : length (namesOf ss .users) ≤ limit cUsers
   pub boolNames : length (namesOf ss .bools) ≤ limit cBools
   -- the bytes of names
-  pub typeBytes : All (λ t. Fits (t .name .text)) (policyIn ss .types)
+  pub typeBytes : All (λ t. Fits (t .name .text)) (saidBy ss .types)
   pub attributeBytes : All (λ a. Fits (a .name)) (namesOf ss .attributes)
-  pub aliasBytes : All (λ a. Fits (a .name .text)) (policyIn ss .aliases)
-  pub classBytes : All (λ c. Fits (c .name .text) × All (λ x. Fits (x .text)) (c .perms)) (policyIn ss .classes)
-  pub roleBytes : All (λ r. Fits (r .name .text)) (policyIn ss .roles)
-  pub userBytes : All (λ u. Fits (u .name .text)) (policyIn ss .users)
-  pub boolBytes : All (λ b. Fits (b .name .text)) (policyIn ss .bools)
+  pub aliasBytes : All (λ a. Fits (a .name .text)) (saidBy ss .aliases)
+  pub classBytes : All (λ c. Fits (c .name .text) × All (λ x. Fits (x .text)) (c .perms)) (saidBy ss .classes)
+  pub roleBytes : All (λ r. Fits (r .name .text)) (saidBy ss .roles)
+  pub userBytes : All (λ u. Fits (u .name .text)) (saidBy ss .users)
+  pub boolBytes : All (λ b. Fits (b .name .text)) (saidBy ss .bools)
 
 -- ---- lists as long as others
 entries-long : (n : Names) (bs : List Bound) (is : List Item) (i : ℕ) (ns : List Name) → length (typeEntries n bs is i ns) ≡ length ns

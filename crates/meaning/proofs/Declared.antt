@@ -15,7 +15,7 @@ use Rattle.meaning.specs.Statements.{Item, Statement, part, namesAt, ofF
 use Rattle.meaning.specs.Names.{Decl, declaresAt, declares, declOf, objectR, declaredBy, declared, firstText, dNone, dType, dAttribute, dAlias, dRole, dUser, dClass, dCommon, dBool, dPerm}
 use Rattle.meaning.specs.Permissions.{itemName}
 use Rattle.meaning.specs.Sets.{Alias, nameOf, ofKind, aliasesBy}
-use Rattle.meaning.proofs.Lists.{bool-cases, and-both, both-and, same-test, Among, here, there, keep-among, among-keep, each-among, among-each, joined-among, among-joined}
+use Rattle.meaning.proofs.Lists.{bool-cases, and-both, both-and, same-test, Among, here, there, keep-among, among-keep, keep-append, keep-none, each-among, among-each, joined-among, among-joined}
 use Rattle.meaning.proofs.Served.{Found}
 
 -- ---- what a name declares, as a table
@@ -94,10 +94,6 @@ type-found ss {st = st} {i = i} mst mi f p n =
     }
 
 -- ---- users and booleans
-keep-append : {A : Type 0} (p : A → Bool) (l r : List A) → keep p (l ++ r) ≡ keep p l ++ keep p r
-keep-append p [] r = refl
-keep-append p (x ∷ l) r = bool-cases (p x) (λ e. rw (e, keep-append p l r)) (λ e. rw (e, keep-append p l r))
-
 pub each-append : {A B : Type 0} (f : A → B) (l r : List A) → each f (l ++ r) ≡ each f l ++ each f r
 each-append f [] r = refl
 each-append f (x ∷ l) r = ap (f x ∷_) (each-append f l r)
@@ -105,10 +101,6 @@ each-append f (x ∷ l) r = ap (f x ∷_) (each-append f l r)
 keep-same : {A : Type 0} (p q : A → Bool) → ((x : A) → p x ≡ q x) → (l : List A) → keep p l ≡ keep q l
 keep-same p q h [] = refl
 keep-same p q h (x ∷ l) = rw (h x, keep-same p q h l)
-
-keep-none : {A : Type 0} (p : A → Bool) → ((x : A) → p x ≡ false) → (l : List A) → keep p l ≡ []
-keep-none p h [] = refl
-keep-none p h (x ∷ l) = rw (h x) (keep-none p h l)
 
 -- of what a statement of the form k declares at its first position, as d
 module _ (k d : ℕ) (just-there : (f p : ℕ) → eqb (declaresAt f p) d ≡ (eqb f k && eqb p pFirst)) (some : eqb dNone d ≡ false)
@@ -136,7 +128,7 @@ module _ (k d : ℕ) (just-there : (f p : ℕ) → eqb (declaresAt f p) d ≡ (e
       items-as st (st .items)
       ∙ bool-cases (eqb (st .form) k)
       (λ e. rw (e, keep-same _ (λ i. eqb (i .pos) pFirst && eqb (i .kind) kName) (λ i. declares-is st i ∙ rw e) (st .items)))
-      (λ e. rw (e, keep-none (λ i. eqb (declares st i) d) (λ i. declares-is st i ∙ rw e) (st .items)))
+      (λ e. rw (e, keep-none (λ i. eqb (declares st i) d) (λ i h. false≢true (sym (declares-is st i ∙ rw e) ∙ h)) (st .items)))
 
   of-statements : (ss : List Statement) → each nameOf (keep (λ e. eqb (e .kind) d) (joined declaredBy ss))
       ≡ joined (λ st. each itemName (namesAt pFirst st)) (ofForm k ss)

@@ -15,9 +15,9 @@ use Rattle.meaning.specs.Statements.{outside, Item, Statement, Gathered,
 use Rattle.meaning.specs.Sizes.{nameCount, noCounts, cNone}
 use Rattle.meaning.specs.Keywords.{kName, kClass, kCommon, kAttribute, kType, kTypealias, kBool, kRole, kUser, kPerms}
 use Rattle.meaning.specs.Names.{Decl, declaresAt, declares, declOf, objectR, declaredBy, declared, dType, dBool, dRole}
-use Rattle.meaning.proofs.Lists.{bool-cases, and-both}
+use Rattle.meaning.proofs.Lists.{bool-cases, and-both, keep-none}
 use Rattle.meaning.proofs.Lengths.{if-all, oneIf, one-le, all-of, all-map, keep-if, keep-le}
-use Rattle.meaning.proofs.Lengths.{keep-sum, joined-sum, keep-none, keep-each, keep-keep, keep-joined, joined-keep}
+use Rattle.meaning.proofs.Lengths.{keep-sum, joined-sum, keep-each, keep-keep, keep-joined, joined-keep}
 use Rattle.meaning.proofs.Passed.{Passed}
 use Rattle.meaning.proofs.Single.{single, named, all-single}
 use Rattle.meaning.proofs.Counted.{limit, counts, wholeCount, share, shares-within}
@@ -124,7 +124,7 @@ module _ (d : ℕ) (one : ltb 0 (home d) ≡ true) where
       let b = keep-keep (λ i. eqb (declares s i) d) (λ i. within dType dBool (declares s i)) (s .items) in
       let c = keep-le (λ i. eqb (declares s i) d) named (λ i h. item-declares s i h .1) (s .items) in
       bool-cases (eqb (s .form) (home d)) (λ e. rw e (omega arith))
-      (λ e. rw e (omega (arith, keep-none (λ i. eqb (declares s i) d) (λ i h. eqb-false (s .form) (home d) e (item-declares s i h .0)) (s .items))))
+      (λ e. rw e (omega (arith, ap length (keep-none (λ i. eqb (declares s i) d) (λ i h. eqb-false (s .form) (home d) e (item-declares s i h .0)) (s .items)))))
 
   declared-firsts : (ss : List Statement) → length (keep (ofKind d) (declared ss)) ≤ oneIf (eqb dRole d) + length (joined (firsts (home d)) ss)
   unfolding declared objectR

@@ -4,7 +4,7 @@
 -- Assumes nothing.
 use mathlib.Core.Path.{_≡_, refl}
 use mathlib.Core.List.{List}
-use mathlib.Core.Bool.{Bool, true, false, not, _&&_, _||_, false≢true}
+use mathlib.Core.Bool.{Bool, true, false, not, _&&_, _||_, false≢true, and-false}
 use Prim.Native.Nat.{ℕ, _+_, _-_, _≤_, _<_}
 use native.Mathlib.Omega.{arith}
 use borrow.Author.Tests.{eqb-true, eq-eqb, ne-eqb, lt-ltb}
@@ -19,7 +19,7 @@ use Rattle.meaning.specs.Sizes.{ownPermissions, ownBesideCommon}
 use Rattle.meaning.specs.Rules.{constraintWords}
 use Rattle.meaning.specs.Keywords.{starts, kName, kClass, kCommon, kPerms}
 use Rattle.meaning.proofs.Lists.{bool-cases, and-both, or-cases}
-use Rattle.meaning.proofs.Lengths.{and-false, oneIf, All, empty, more, all-map, keep-if}
+use Rattle.meaning.proofs.Lengths.{oneIf, All, empty, more, all-map, keep-if}
 use Rattle.meaning.proofs.Lengths.{keep-le}
 use Rattle.meaning.proofs.Steps.{active, active-starts, left-behind, say-cases, stop-silent, Form, none, own, perms, types}
 use Rattle.meaning.proofs.Steps.{roles, form-keyword}

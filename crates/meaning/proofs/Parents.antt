@@ -38,7 +38,7 @@ pub data Grounded (f : ℕ → Parent) : ℕ → ℕ → Type 0 where
   under : {x y d : ℕ} → f x ≡ parent y → Grounded f y d → Grounded f x (suc d)
 
 not-both : {p : Parent} {y : ℕ} → p ≡ noParent → p ≡ parent y → ⊥
-not-both e q = let z : _≡_ {A = ℕ} 0 1 = cc in omega arith
+not-both e q = false≢true (cc)
 
 one-parent : {p : Parent} {y z : ℕ} → p ≡ parent y → p ≡ parent z → y ≡ z
 one-parent e q = cc
@@ -164,10 +164,10 @@ module _ (n : ℕ) (b : Bound) (bs : List Bound) (e : boundClash n bs b ≡ fals
 
 -- ---- all the bounds
 -- the parents are below n; nothing is asked of the children
-abbrev pub InRange : ℕ → List Bound → Type 0
-InRange n bs = (b : Bound) → Among b bs → b .parent < n
+abbrev pub ParentsBelow : ℕ → List Bound → Type 0
+ParentsBelow n bs = (b : Bound) → Among b bs → b .parent < n
 
-below-all : (n : ℕ) (bs : List Bound) → InRange n bs → Below n (parentIn bs)
+below-all : (n : ℕ) (bs : List Bound) → ParentsBelow n bs → Below n (parentIn bs)
 unfolding parentIn
 below-all n [] l y z e = absurd (not-both refl e)
 below-all n (b ∷ bs) l y z e = below-more n b bs (l b (here refl)) (below-all n bs (λ a m. l a (there m))) y z e
@@ -198,7 +198,7 @@ module _ (n : ℕ) (place : Bound → ℕ) where
       (λ q. own-child b (bs ++ before) x q ∙ sym (given-stays (b ∷ before) bs e x (b .parent) (own-child b before x q)))
       (λ h. other-child b (bs ++ before) x h ∙ sym (further b bs before x h))
 
-  go-through : (before bs : List Bound) → firstAgainst (boundClash n) place before bs ≡ nowhere → InRange n bs
+  go-through : (before bs : List Bound) → firstAgainst (boundClash n) place before bs ≡ nowhere → ParentsBelow n bs
       → Below n (parentIn before) → Ends (parentIn before) → Ends (parentIn (bs ++ before))
   go-through before [] e l w g x = g x
   go-through before (b ∷ bs) e l w g x =
@@ -208,7 +208,7 @@ module _ (n : ℕ) (place : Bound → ℕ) where
       (r .0, like (λ y. Unit {0}) (λ y z h q. tt) (λ y h. in-front before b bs (c .1) y) (r .1) tt)
 
 -- Where the bounds hold no refusal 8 and their parents are below n, each number is grounded, and one below n at a height below n.
-pub bounds-end : (n : ℕ) (place : Bound → ℕ) (bs : List Bound) → firstAgainst (boundClash n) place [] bs ≡ nowhere → InRange n bs
+pub bounds-end : (n : ℕ) (place : Bound → ℕ) (bs : List Bound) → firstAgainst (boundClash n) place [] bs ≡ nowhere → ParentsBelow n bs
     → (x : ℕ) → (d : ℕ) × Grounded (parentIn bs) x d × (x < n → d < n)
 unfolding parentIn
 bounds-end n place bs e l x =
@@ -243,7 +243,7 @@ unfolding policyOf typesIn typeAt
 parent-is n ss x l = entry-parent n (boundsOf n ss) _ 0 (n .types) x _ x (omega arith) (omega (arith, type-count n ss))
 
 -- Each type of a text with no earlier refusal is grounded, with fewer ancestors than there are types.
-pub parents-end : (s : List ℕ) → NoEarlier s → (in-range : InRange (length (namesIn s .types)) (boundsOf (namesIn s) (statementsIn s)))
+pub parents-end : (s : List ℕ) → NoEarlier s → (in-range : ParentsBelow (length (namesIn s .types)) (boundsOf (namesIn s) (statementsIn s)))
     → (x : ℕ) → x < length (policyIn s .types) → (d : ℕ) × Grounded (parentOf (policyIn s)) x d × (d < length (policyIn s .types))
 parents-end s c in-range x l =
     let n = namesIn s in
@@ -296,7 +296,7 @@ pub asks-all : (p : Policy) (s t : Context) (c i : ℕ) {d : ℕ} → Grounded (
 asks-all p s t c i g k m l h = asks-from p t c i g k m l h s refl
 
 -- So, of a text, a source whose type has a parent is allowed what its own type is and what the question asked again with the parent is.
-pub parent-asked : (s : List ℕ) → NoEarlier s → (in-range : InRange (length (namesIn s .types)) (boundsOf (namesIn s) (statementsIn s)))
+pub parent-asked : (s : List ℕ) → NoEarlier s → (in-range : ParentsBelow (length (namesIn s .types)) (boundsOf (namesIn s) (statementsIn s)))
     → (a t : Context) (c i y : ℕ) → a .type < length (policyIn s .types) → parentOf (policyIn s) (a .type) ≡ parent y
     → let p = policyIn s in allows p (length (p .types)) a t c i ≡ (ownAllows p a t c i && allows p (length (p .types)) (withType a y) t c i)
 parent-asked s e in-range a t c i y l q =

@@ -8,7 +8,6 @@ use mathlib.Core.Bool.{Bool, true, false, _&&_, false≢true}
 use mathlib.Core.List.{List, [], _∷_}
 use mathlib.Core.Logic.{_⊎_, inl, inr}
 use Prim.Native.Nat.{ℕ, _≤_}
-use native.Mathlib.Omega.{arith}
 use borrow.Author.Tests.{ltb-false}
 use lib.Dec.{eqb, ltb}
 use lib.ListN.{length, getD}
@@ -20,8 +19,8 @@ use Rattle.meaning.specs.Statements.{Gathered, gather}
 use Rattle.meaning.specs.Sizes.{limits, countOf, ownLimit, Counts, noCounts, counted, exceeds, placeOf, cNone, longestName}
 use Rattle.meaning.specs.Sizes.{nestedParentheses, Verdict, fits, ungrammatical, oversize, readFrom, readText}
 use Rattle.meaning.specs.Keywords.{kName, kLparen}
-use Rattle.meaning.proofs.Lists.{bool-cases}
-use Rattle.meaning.proofs.Lengths.{or-neither, All, empty, more}
+use Rattle.meaning.proofs.Lists.{bool-cases, or-neither}
+use Rattle.meaning.proofs.Lengths.{All, empty, more}
 use Rattle.meaning.proofs.Steps.{active, active-starts, starts-ends, begin-step, stays, keyword-kept, Form, none, form-at}
 
 -- ---- a text that fits, from some word on
@@ -68,8 +67,8 @@ pub data Passed : Seen → Counts → Gathered → Type 0 where
 -- a turn of the reading that does not end it
 turn : (none over : Bool) (p q : ℕ) (v : Verdict) → (if none then ungrammatical p else if over then oversize q else v) ≡ fits
     → (over ≡ false) × (v ≡ fits)
-turn true over p q v e = let z : _≡_ {A = ℕ} 0 1 = cc in absurd (omega arith)
-turn false true p q v e = let z : _≡_ {A = ℕ} 0 1 = cc in absurd (omega arith)
+turn true over p q v e = absurd (false≢true (cc))
+turn false true p q v e = absurd (false≢true (cc))
 turn false false p q v e = (refl, e)
 
 passed : (end : ℕ) (ws : List Word) (g : G) (st : Seen) (c : Counts) (last n : ℕ) (b : Branch) → readFrom end g st c last ws ≡ fits

@@ -17,8 +17,7 @@ use Rattle.meaning.specs.Plain.{if_then_else_, within, keep}
 use Rattle.meaning.specs.Keywords.{kName, kRparen, kSemi, kClass, kRole, kIf, kElse, kConstrain, kU1, kU2, kR1, kR2, starts, isTerm}
 use Rattle.meaning.specs.Words.{Word, wordsOf}
 use Rattle.meaning.specs.Statements.{Seen, outside, step, compared, inE, ofE, idle, saying, says, Item, itemOf, Branch, always, Statement, statementsOf, ends, formAt, Gathered, gather, pFirst, pTest, pUsers, pRoles, pTypes}
-use Rattle.meaning.proofs.Lists.{bool-cases, and-both, both-and, or-cases, Among, here, there}
-use Rattle.meaning.proofs.Texts.{either-right}
+use Rattle.meaning.proofs.Lists.{bool-cases, either-right, or-neither, and-both, both-and, or-cases, Among, here, there}
 use Rattle.meaning.proofs.Reading.{kinds, fits-is}
 use Rattle.meaning.proofs.Seats.{Seat, seat, begunIf, silent, opens, due, paid, speaks, namesOnly, Proper, proper-is, Walks}
 use Rattle.meaning.proofs.Walks.{walks}
@@ -121,10 +120,6 @@ pub record Shape (w p : ℕ) (is : List Item) : Type 0 where
   pub heads : eqb w kConstrain ≡ true → within pUsers pTypes p ≡ true → Heads p (keep inTest is)
   pub told : eqb w kConstrain ≡ true → Told (keep inTest is)
 
-or-false : (a b : Bool) → (a || b) ≡ false → (a ≡ false) × (b ≡ false)
-or-false true b e = absurd (false≢true (sym e))
-or-false false b e = (refl, e)
-
 pub compared-is : (k : ℕ) → within pUsers pTypes (compared k) ≡ true
 unfolding compared
 compared-is k = by (within kU1 kU2 k) (within kR1 kR2 k)
@@ -151,7 +146,7 @@ module _ (f : Bool) (st : Seen) (w : Word) (p : Proper (seat f st) (w .kind) (se
 
   goes : (starts (w .kind) ≡ false) × (eqb (w .kind) kSemi ≡ false)
   unfolding ends
-  goes = or-false (starts (w .kind)) (eqb (w .kind) kSemi) (or-false (starts (w .kind) || eqb (w .kind) kSemi) _ e .0)
+  goes = or-neither (starts (w .kind)) (eqb (w .kind) kSemi) (or-neither (starts (w .kind) || eqb (w .kind) kSemi) _ e .0)
 
   owed-on : (s : Bool) → says st (w .kind) ≡ s → paid (st .kw) (st .pos) ≡ false
       → (i : Item) × Among i (more st w is s) × (due (st .kw) (i .pos) ≡ true)

@@ -4,7 +4,7 @@
 -- Each is by the tests in the definition, in their order.
 -- Assumes nothing.
 use mathlib.Core.Path.{_≡_, refl, sym, _∙_, subst}
-use mathlib.Core.Bool.{Bool, true, false, not, _&&_, _||_, false≢true}
+use mathlib.Core.Bool.{Bool, true, false, not, _&&_, _||_, false≢true, and-false, or-true}
 use mathlib.Core.Logic.{_⊎_, inl, inr}
 use Prim.Native.Nat.{ℕ, _≤_, _<_}
 use native.Mathlib.Omega.{arith}
@@ -18,7 +18,7 @@ use Rattle.meaning.specs.Keywords.{kName, kOpen, kClose, kLparen, kRpare
 use Rattle.meaning.specs.Keywords.{kClass, kCommon, kRole, kAllow, kIf, kElse, kConstrain, kInherits, kAlias, kTrue, kFalse}
 use Rattle.meaning.specs.Keywords.{kSelf, kU1, kU2, kR1, kR2, kPerms, kRoleTypes, kRoleAllow, starts, isTerm}
 use Rattle.meaning.proofs.Lists.{bool-cases, and-both, or-cases}
-use Rattle.meaning.proofs.Lengths.{and-false, or-true, if-all}
+use Rattle.meaning.proofs.Lengths.{if-all}
 
 -- a statement begins; `else` begins none
 abbrev pub active : ℕ → Bool

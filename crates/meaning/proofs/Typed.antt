@@ -21,7 +21,7 @@ use Rattle.meaning.specs.Policy.{noParent, TypeEntry}
 use Rattle.meaning.specs.Rules.{Bound, boundsOf, numberOf, aliasEntry, typeEntries, typesIn, policyOf}
 use Rattle.meaning.specs.Contexts.{nameless, aliased, typeNumber}
 use Rattle.meaning.specs.Keywords.{kName, kType, kTypealias, kPermissive}
-use Rattle.meaning.proofs.Lists.{Among, here, there, bool-cases, and-both, or-cases, same-bytes, keep-among, among-keep, each-among, among-each, joined-among, among-joined, at-among, index-reads}
+use Rattle.meaning.proofs.Lists.{Among, here, there, if-among, bool-cases, and-both, or-cases, same-bytes, keep-among, among-keep, each-among, among-each, joined-among, among-joined, at-among, index-reads}
 use Rattle.meaning.proofs.Accepted.{statementsIn, namesIn, policyIn}
 use Rattle.meaning.proofs.Apart.{same-declaration}
 use Rattle.meaning.proofs.Rows.{typeName}
@@ -46,10 +46,6 @@ types-length s =
     entries-length (namesIn s) (boundsOf (namesIn s) ss) (joined (part pFirst) (ofForm kPermissive ss)) 0 (namesIn s .types)
 
 -- ---- a type's name is no alias's
-if-among : {A : Type 0} {x : A} (b : Bool) (l : List A) → Among x (if b then l else []) → (b ≡ true) × Among x l
-if-among true l m = (refl, m)
-if-among false l m = elim m [ ]
-
 -- the item of an alias declares one
 declares-alias : (st : Statement) (i : Item) → (eqb (st .form) kType || eqb (st .form) kTypealias) ≡ true → i .pos ≡ pThird → i .kind ≡ kName
     → declares st i ≡ dAlias
