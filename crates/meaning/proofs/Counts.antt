@@ -4,26 +4,26 @@
 -- a position that counts, or of statements of a form that does (Limits), or is bounded statement by statement (Own, Held, Kept).
 -- The numbers are those of `limits`; roles are one more, with `object_r`.
 -- Assumes nothing.
-use mathlib.Core.Path.{_≡_, refl, sym, ap, _∙_}
+use mathlib.Core.Path.{_≡_, refl, sym, _∙_}
 use mathlib.Core.Bool.{Bool, true, false, _||_, false≢true, and-false}
-use mathlib.Core.List.{List, [], _∷_}
-use Prim.Native.Nat.{ℕ, suc, _+_, _≤_}
+use mathlib.Core.List.{List, []}
+use Prim.Native.Nat.{ℕ, _+_, _≤_}
 use native.Mathlib.Omega.{arith}
 use borrow.Author.Tests.{eqb-true, ne-eqb, leb-true, lt-leb}
 use lib.Dec.{eqb, leb}
 use lib.ListN.{length}
 use Rattle.meaning.specs.Plain.{keep, each}
 use Rattle.meaning.specs.Words.{wordsOf}
-use Rattle.meaning.specs.Statements.{Item, Statement, statementsOf, outside, Gathered, part, ofForm, pFirst, pThird, pClass}
+use Rattle.meaning.specs.Statements.{Statement, statementsOf, outside, Gathered, part, ofForm, pFirst, pThird, pClass}
 use Rattle.meaning.specs.Statements.{pTest}
 use Rattle.meaning.specs.Sizes.{fits, readText, nameCount, formCount, noCounts, expressionWords, ownPermissions, cTypes}
 use Rattle.meaning.specs.Sizes.{cAttributes, cAliases, cClasses, cCommons, cRoles, cUsers, cBools, cAvRows, cTypeRows}
 use Rattle.meaning.specs.Sizes.{cRoleRules, cIfs, cConstrains}
 use Rattle.meaning.specs.Names.{declared, dType, dAttribute, dRole, dUser, dClass, dCommon, dBool}
-use Rattle.meaning.specs.Permissions.{Name, classOf, classesIn, classPart}
+use Rattle.meaning.specs.Permissions.{classOf, classesIn, classPart}
 use Rattle.meaning.specs.Sets.{Names, namesOf, nameOf, ofKind, aliasesBy, attributeOf}
 use Rattle.meaning.specs.Policy.{Policy}
-use Rattle.meaning.specs.Rules.{policyOf, Bound, typeEntries, typesIn, rolesIn, roleOf, userOf, switchOf, ruleOf, rulesOf}
+use Rattle.meaning.specs.Rules.{policyOf, typesIn, userOf, switchOf, ruleOf, rulesOf}
 use Rattle.meaning.specs.Rules.{rowsOf, avStatements, typeRowsOf, classNumbers, aliasEntry, roleAllowOf, roleTransitionOf}
 use Rattle.meaning.specs.Rules.{ifOf, constrainOf, constraintWords, readTests, boolToken}
 use Rattle.meaning.specs.Keywords.{kType, kTypealias, kBool, kRoleTransition, kTypeTransition, kTypeMember, kAllow, kIf}
@@ -31,6 +31,7 @@ use Rattle.meaning.specs.Keywords.{kUser, kConstrain, kRoleAllow, isAv, 
 use Rattle.meaning.proofs.Lists.{and-both, or-cases, length-each}
 use Rattle.meaning.proofs.Lengths.{oneIf, All, all-of, all-keep, all-each}
 use Rattle.meaning.proofs.Lengths.{keep-two, joined-each}
+use Rattle.meaning.proofs.Listed.{types-counted, roles-counted}
 use Rattle.meaning.proofs.Passed.{Passed, text-passed}
 use Rattle.meaning.proofs.Counted.{limit, wholeCount}
 use Rattle.meaning.proofs.Own.{few-words, test-words, few-common, few-own, few-beside, short-names}
@@ -80,16 +81,6 @@ pub record Within (ss : List Statement) : Type 0 where
   pub boolBytes : All (λ b. Fits (b .name .text)) (saidBy ss .bools)
 
 -- ---- lists as long as others
-entries-long : (n : Names) (bs : List Bound) (is : List Item) (i : ℕ) (ns : List Name) → length (typeEntries n bs is i ns) ≡ length ns
-unfolding typeEntries
-entries-long n bs is i [] = refl
-entries-long n bs is i (x ∷ ns) = ap suc (entries-long n bs is (i + 1) ns)
-
-roles-long : (n : Names) (ss : List Statement) (ns : List Name) → length (rolesIn n ss ns) ≡ length ns
-unfolding rolesIn
-roles-long n ss [] = refl
-roles-long n ss (x ∷ ns) = ap suc (length-each (roleOf n ss) ns)
-
 -- a rule has a row for each class word
 class-words : (K : ℕ → Bool) → K kConstrain ≡ false → (n : Names) (s : Statement) → K (s .form) ≡ true
     → length (classNumbers n s) ≡ length (part pClass s)
@@ -131,8 +122,11 @@ counts-within {g} p =
     let n = namesOf (g .rest) in
     let short = short-names p in
     let words = few-words p in
+    let types : length (n .types) ≤ limit cTypes = rw (length-each nameOf) (names-within p dType cTypes refl (omega arith) refl (omega arith)) in
+    let roles : length (n .roles) ≤ limit cRoles + 1 =
+    rw (length-each nameOf) (single-within p dRole cRoles refl (omega arith) refl refl (omega arith)) in
     record {
-      types = rw (entries-long, length-each nameOf) (names-within p dType cTypes refl (omega arith) refl (omega arith));
+      types = rw (types-counted ss) types;
       attributes = rw (length-each (attributeOf _ _), length-each nameOf)
           (names-within p dAttribute cAttributes refl (omega arith) refl (omega arith));
       aliases = rw (length-each (aliasEntry _)) (at-within p cAliases (omega arith) (λ k. eqb k kType || eqb k kTypealias) pThird _
@@ -140,7 +134,7 @@ counts-within {g} p =
           (λ s e. rw length-each (names-le pThird s)));
       classes = rw (length-each (classOf _)) (single-within p dClass cClasses refl (omega arith) refl refl (omega arith));
       commons = rw (length-each nameOf) (names-within p dCommon cCommons refl (omega arith) refl (omega arith));
-      roles = rw (roles-long, length-each nameOf) (single-within p dRole cRoles refl (omega arith) refl refl (omega arith));
+      roles = rw (roles-counted ss) roles;
       users = kept-within p cUsers (omega arith) (λ k. eqb k kUser) pFirst (userOf n) (λ k e. rw (eqb-true k kUser e))
           (λ s e. rw length-each (names-le pFirst s));
       bools = kept-within p cBools (omega arith) (λ k. eqb k kBool) pFirst switchOf (λ k e. rw (eqb-true k kBool e))
@@ -159,8 +153,8 @@ counts-within {g} p =
       ifCodes = all-each (ifOf n) (all-keep _ (λ s e h. omega (arith, if-code n s)) words);
       constrainWords = all-keep _ (λ s e h. h) words;
       constrainCodes = all-each (constrainOf n) (all-keep _ (λ s e h. omega (arith, constrain-code n s)) words);
-      typeNames = rw (length-each nameOf) (names-within p dType cTypes refl (omega arith) refl (omega arith));
-      roleNames = rw (length-each nameOf) (single-within p dRole cRoles refl (omega arith) refl refl (omega arith));
+      typeNames = types;
+      roleNames = roles;
       userNames = rw (length-each nameOf) (names-within p dUser cUsers refl (omega arith) refl (omega arith));
       boolNames = rw (length-each nameOf) (names-within p dBool cBools refl (omega arith) refl (omega arith));
       typeBytes = types-fit ss short n _ _ 0 _ (kind-fit ss short dType);

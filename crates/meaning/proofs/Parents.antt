@@ -21,7 +21,7 @@ use borrow.Author.Tests.{eqb-true, eqb-false, eq-eqb, ne-eqb, ltb-true, ltb-fals
 use Rattle.meaning.specs.Plain.{if_then_else_, nowhere}
 use Rattle.meaning.specs.Statements.{Item, Statement}
 use Rattle.meaning.specs.Permissions.{Name}
-use Rattle.meaning.specs.Sets.{Names}
+use Rattle.meaning.specs.Sets.{Names, namesOf}
 use Rattle.meaning.specs.Policy.{Parent, noParent, parent, TypeEntry, Policy}
 use Rattle.meaning.specs.Rules.{Bound, boundsOf, parentIn, typeEntries, typesIn, policyOf}
 use Rattle.meaning.specs.Contradictions.{firstAgainst, comesTo, otherParent, boundClash}
@@ -29,6 +29,7 @@ use Rattle.meaning.specs.Contexts.{Context, typeAt}
 use Rattle.meaning.specs.Access.{ownAllows, withType, allows}
 use Rattle.meaning.proofs.Lists.{bool-cases, Among, here, there}
 use Rattle.meaning.proofs.Accepted.{statementsIn, namesIn, policyIn, NoEarlier}
+use Rattle.meaning.proofs.Listed.{types-counted}
 use Rattle.meaning.proofs.Agreed.{parts-agree, clear-step}
 use Rattle.meaning.proofs.Pigeons.{pigeons}
 
@@ -227,20 +228,11 @@ entry-parent n bs perm i [] k d y e l = absurd (not-suc-le-zero l)
 entry-parent n bs perm i (x ∷ xs) zero d y e l = ap (parentIn bs) (omega arith)
 entry-parent n bs perm i (x ∷ xs) (suc k) d y e l = entry-parent n bs perm (i + 1) xs k d y (omega arith) (omega arith)
 
-entry-count : (n : Names) (bs : List Bound) (perm : List Item) (i : ℕ) (xs : List Name) → length (typeEntries n bs perm i xs) ≡ length xs
-unfolding typeEntries
-entry-count n bs perm i [] = refl
-entry-count n bs perm i (x ∷ xs) = ap suc (entry-count n bs perm (i + 1) xs)
-
-pub type-count : (n : Names) (ss : List Statement) → length (policyOf n ss .types) ≡ length (n .types)
-unfolding policyOf typesIn
-type-count n ss = entry-count n (boundsOf n ss) _ 0 (n .types)
-
 -- A type's parent is the one that the bounds give it.
-pub parent-is : (n : Names) (ss : List Statement) (x : ℕ) → x < length (policyOf n ss .types)
-    → parentOf (policyOf n ss) x ≡ parentIn (boundsOf n ss) x
+pub parent-is : (ss : List Statement) (x : ℕ) → x < length (namesOf ss .types)
+    → parentOf (policyOf (namesOf ss) ss) x ≡ parentIn (boundsOf (namesOf ss) ss) x
 unfolding policyOf typesIn typeAt
-parent-is n ss x l = entry-parent n (boundsOf n ss) _ 0 (n .types) x _ x (omega arith) (omega (arith, type-count n ss))
+parent-is ss x l = entry-parent (namesOf ss) _ _ 0 (namesOf ss .types) x _ x (omega arith) l
 
 -- Each type of a text with no earlier refusal is grounded, with fewer ancestors than there are types.
 pub parents-end : (s : List ℕ) → NoEarlier s → (in-range : ParentsBelow (length (namesIn s .types)) (boundsOf (namesIn s) (statementsIn s)))
@@ -249,11 +241,11 @@ parents-end s c in-range x l =
     let n = namesIn s in
     let ss = statementsIn s in
     let k = length (n .types) in
-    let m = type-count n ss in
+    let m = types-counted ss in
     let h : x < k = omega arith in
     let r = bounds-end k (λ b. b .at) (boundsOf n ss) (parts-agree n ss (policyIn s) (c .agrees) .2) in-range x in
     let small = r .2 h in
-    let g = like (λ y. y < k) (λ y z q. below-all k (boundsOf n ss) in-range y z) (λ y q. parent-is n ss y (omega arith)) (r .1) h in
+    let g = like (λ y. y < k) (λ y z q. below-all k (boundsOf n ss) in-range y z) (parent-is ss) (r .1) h in
     (r .0, g, omega arith)
 
 -- ---- the question asked again
