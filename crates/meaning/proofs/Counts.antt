@@ -80,8 +80,7 @@ pub record Within (ss : List Statement) : Type 0 where
   pub userBytes : All (λ u. Fits (u .name .text)) (saidBy ss .users)
   pub boolBytes : All (λ b. Fits (b .name .text)) (saidBy ss .bools)
 
--- ---- lists as long as others
--- a rule has a row for each class word
+-- ---- lists as long as others: a rule has a row for each class word
 class-words : (K : ℕ → Bool) → K kConstrain ≡ false → (n : Names) (s : Statement) → K (s .form) ≡ true
     → length (classNumbers n s) ≡ length (part pClass s)
 unfolding classNumbers classPart

@@ -21,7 +21,7 @@ use Rattle.meaning.specs.Sizes.{nestedParentheses, Verdict, fits, ungram
 use Rattle.meaning.specs.Keywords.{kName, kLparen}
 use Rattle.meaning.proofs.Lists.{bool-cases, or-neither}
 use Rattle.meaning.proofs.Lengths.{All, empty, more}
-use Rattle.meaning.proofs.Steps.{active, active-starts, starts-ends, begin-step, stays, keyword-kept, Form, none, form-at}
+use Rattle.meaning.proofs.Steps.{active, active-starts, starts-ends, begin-step, stays, keyword-kept, quiet-on, says-quiet, Form, none, form-at}
 
 -- ---- a text that fits, from some word on
 -- what is gathered with one more word in front of r: it begins a statement in the branch b, or it begins none
@@ -91,17 +91,10 @@ unfolding readText
 text-passed end ws e = passed end ws policy outside noCounts 0 0 Branch.always e
 
 -- ---- what is gathered
-silent : (st : Seen) (k : ℕ) → active (st .kw) ≡ false → says st k ≡ false
-unfolding says
-silent st k h = rw h
-
 pub nothing-said : {st : Seen} {c : Counts} {g : Gathered} → Passed st c g → active (st .kw) ≡ false → g .items ≡ []
 nothing-said done h = refl
 nothing-said (begins w b a x p) h = refl
-nothing-said {st} (goes w a x p) h = rw (silent st (w .kind) h) (nothing-said p (from (keyword-kept st (w .kind) a))) where
-  from : (step st (w .kind) .kw ≡ st .kw) ⊎ (active (step st (w .kind) .kw) ≡ false) → active (step st (w .kind) .kw) ≡ false
-  from (inl e) = rw e h
-  from (inr e) = e
+nothing-said {st} (goes w a x p) h = rw (says-quiet st (w .kind) h) (nothing-said p (quiet-on st (w .kind) a h))
 
 -- the items behind a word that begins nothing are of the same statement, or there are none
 pub tail-cases : {P : Type 0} (st : Seen) (k : ℕ) {c : Counts} {r : Gathered} → active k ≡ false → Passed (step st k) c r
