@@ -17,7 +17,7 @@ use Rattle.meaning.specs.Sets.{Names}
 use Rattle.meaning.specs.Policy.{Set, holds, meet, TypeRow, RoleTransition, Policy}
 use Rattle.meaning.specs.Rules.{boundsOf}
 use Rattle.meaning.specs.Contradictions.{typesClash, rolesClash, firstAgainst, withAny, boundClash, contradiction}
-use Rattle.meaning.proofs.Lists.{Among, here, there, among-any, if-nowhere}
+use Rattle.meaning.proofs.Lists.{bool-cases, Among, here, there, among-any, if-nowhere}
 
 -- ---- no place
 earlier-nowhere : (a b : Spot) → earlier a b ≡ nowhere → (a ≡ nowhere) × (b ≡ nowhere)
@@ -44,11 +44,7 @@ unfolding firstAgainst
 clear-step clash place before x xs = if-nowhere (clash before x) (place x) _
 
 none-of : {A : Type 0} (p : A → Bool) {x : A} {l : List A} → any p l ≡ false → Among x l → p x ≡ false
-none-of p {x = x} {l = l} e m = go (p x) refl
-  where
-    go : (b : Bool) → p x ≡ b → b ≡ false
-    go true q = absurd (false≢true (sym e ∙ among-any p m q))
-    go false q = refl
+none-of p {x = x} e m = bool-cases (p x) (λ q. absurd (false≢true (sym e ∙ among-any p m q))) (λ q. q)
 
 module _ {A : Type 0} (clash : A → A → Bool) (place : A → ℕ) where
   not-before : {before : List A} {l : List A} {a b : A} → firstAgainst (withAny clash) place before l ≡ nowhere

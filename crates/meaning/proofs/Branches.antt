@@ -36,11 +36,7 @@ abbrev counted : ℕ → ℕ → ℕ
 counted n k = if eqb k kIf then n + 1 else n
 
 begun-some : (f : Bool) (n k : ℕ) → (f ≡ true → 1 ≤ n) → begunIf f k ≡ true → 1 ≤ counted n k
-begun-some f n k h = by (eqb k kIf)
-  where
-    by : (c : Bool) → (if c then true else f) ≡ true → 1 ≤ (if c then n + 1 else n)
-    by true e = omega arith
-    by false e = h e
+begun-some f n k h = bool-cases (eqb k kIf) (λ e. rw e (λ z. omega arith)) (λ e. rw e h)
 
 -- behind a word
 branch-on : (f : Bool) (st : Seen) (n : ℕ) (b : Branch) (k : ℕ) → (f ≡ true → 1 ≤ n) → (not (eqb k kElse) || f) ≡ true

@@ -152,14 +152,10 @@ pub among-any : {A : Type 0} (p : A → Bool) {x : A} {l : List A} → Among x l
 among-any p (here e) q = rw (sym (ap p e) ∙ q)
 among-any p (there {x = y} m) q = bool-cases (p y) (λ e. rw e) (λ e. rw e (among-any p m q))
 
-any-step : {A : Type 0} (p : A → Bool) (y : A) (l : List A) (b : Bool) → p y ≡ b → (any p l ≡ true → (x : A) × Among x l × (p x ≡ true))
-    → (if b then true else any p l) ≡ true → (x : A) × Among x (y ∷ l) × (p x ≡ true)
-any-step p y l true q f e = (y, here refl, q)
-any-step p y l false q f e = let r = f e in (r .0, there (r .1), r .2)
-
 pub any-among : {A : Type 0} (p : A → Bool) (l : List A) → any p l ≡ true → (x : A) × Among x l × (p x ≡ true)
 any-among p [] e = absurd (false≢true e)
-any-among p (y ∷ l) e = any-step p y l (p y) refl (any-among p l) e
+any-among p (y ∷ l) e =
+    bool-cases (p y) (λ q. (y, here refl, q)) (λ q. let r = any-among p l (rw q at e) in (r .0, there (r .1), r .2))
 
 -- ---- what stands at a number
 pub at-among : {A : Type 0} (l : List A) (i : ℕ) (d : A) → i < length l → Among (getD l i d) l

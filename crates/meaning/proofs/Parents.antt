@@ -253,21 +253,13 @@ parents-end s c in-range x l =
 pub no-parent : (p : Policy) (k : ℕ) (s t : Context) (c i : ℕ) → parentOf p (s .type) ≡ noParent → allows p k s t c i ≡ ownAllows p s t c i
 unfolding allows
 no-parent p zero s t c i e = refl
-no-parent p (suc k) s t c i e = rw e (go (ownAllows p s t c i))
-  where
-    go : (b : Bool) → (if b then true else false) ≡ b
-    go true = refl
-    go false = refl
+no-parent p (suc k) s t c i e = rw e (bool-cases (ownAllows p s t c i) (λ q. rw q) (λ q. rw q))
 
 -- With a parent both must allow it.
 pub has-parent : (p : Policy) (k : ℕ) (s t : Context) (c i y : ℕ) → parentOf p (s .type) ≡ parent y
     → allows p (suc k) s t c i ≡ (ownAllows p s t c i && allows p k (withType s y) t c i)
 unfolding allows
-has-parent p k s t c i y e = rw e (go (ownAllows p s t c i) (allows p k (withType s y) t c i))
-  where
-    go : (b r : Bool) → (if b then r else false) ≡ (b && r)
-    go true r = refl
-    go false r = refl
+has-parent p k s t c i y e = rw e (bool-cases (ownAllows p s t c i) (λ q. rw q) (λ q. rw q))
 
 asks-from : (p : Policy) (t : Context) (c i : ℕ) {x d : ℕ} → Grounded (parentOf p) x d → (k m : ℕ) → d ≤ k → d ≤ m
     → (s : Context) → s .type ≡ x → allows p k s t c i ≡ allows p m s t c i

@@ -6,7 +6,7 @@
 use mathlib.Core.Path.{_≡_, refl}
 use mathlib.Core.Bool.{Bool, true, false, _&&_, false≢true}
 use mathlib.Core.List.{List, [], _∷_}
-use mathlib.Core.Logic.{_⊎_, inl, inr}
+use mathlib.Core.Logic.{⊎-elim}
 use Prim.Native.Nat.{ℕ, _≤_}
 use borrow.Author.Tests.{ltb-false}
 use lib.Dec.{eqb, ltb}
@@ -99,10 +99,7 @@ nothing-said {st} (goes w a x p) h = rw (says-quiet st (w .kind) h) (nothing-sai
 -- the items behind a word that begins nothing are of the same statement, or there are none
 pub tail-cases : {P : Type 0} (st : Seen) (k : ℕ) {c : Counts} {r : Gathered} → active k ≡ false → Passed (step st k) c r
     → (step st k .kw ≡ st .kw → P) → (r .items ≡ [] → P) → P
-tail-cases {P} st k {r = r} a p f g = from (keyword-kept st k a) where
-  from : (step st k .kw ≡ st .kw) ⊎ (active (step st k .kw) ≡ false) → P
-  from (inl e) = f e
-  from (inr e) = g (nothing-said p e)
+tail-cases st k a p f g = ⊎-elim f (λ e. g (nothing-said p e)) (keyword-kept st k a)
 
 pub form-of : {st : Seen} {c : Counts} {g : Gathered} → Passed st c g → Form (st .kw) (g .form)
 form-of done = none

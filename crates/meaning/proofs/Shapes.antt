@@ -14,13 +14,13 @@ use borrow.Author.Tests.{eqb-true, leb-true, le-leb, not-true}
 use lib.Dec.{eqb, leb}
 use lib.ListN.{length}
 use Rattle.meaning.specs.Plain.{if_then_else_, within, keep}
-use Rattle.meaning.specs.Keywords.{kName, kSemi, kClass, kRole, kConstrain, kU1, kU2, kR1, kR2, starts, isTerm}
+use Rattle.meaning.specs.Keywords.{kName, kSemi, kClass, kRole, kConstrain, starts, isTerm}
 use Rattle.meaning.specs.Words.{Word, wordsOf}
-use Rattle.meaning.specs.Statements.{Seen, outside, step, compared, inE, ofE, idle, saying, says, Item, itemOf, Branch, always, Statement, statementsOf, ends, formAt, Gathered, gather, pFirst, pTest, pUsers, pRoles, pTypes}
+use Rattle.meaning.specs.Statements.{Seen, outside, step, compared, inE, ofE, idle, saying, says, Item, itemOf, Branch, always, Statement, statementsOf, ends, formAt, Gathered, gather, pFirst, pTest, pUsers, pTypes}
 use Rattle.meaning.proofs.Lists.{bool-cases, either-right, or-neither, and-both, both-and, or-cases, Among, here, there}
 use Rattle.meaning.proofs.Reading.{kinds, fits-is}
 use Rattle.meaning.proofs.Places.{stepped}
-use Rattle.meaning.proofs.Steps.{active, active-starts, starts-ends, begin-step, stays, quiet-on, stop-silent, says-quiet, says-what, ofE-in}
+use Rattle.meaning.proofs.Steps.{active, active-starts, starts-ends, begin-step, stays, quiet-on, stop-silent, says-quiet, says-what, ofE-in, compared-is}
 use Rattle.meaning.proofs.Seats.{Seat, seat, begunIf, due, paid, speaks, namesOnly, Proper, proper-is, Walks}
 use Rattle.meaning.proofs.Walks.{walks}
 use Rattle.meaning.proofs.Forms.{plainForm, form-plain}
@@ -83,15 +83,6 @@ pub record Shape (w p : ℕ) (is : List Item) : Type 0 where
   pub owed : paid w p ≡ false → (i : Item) × Among i is × (due w (i .pos) ≡ true)
   pub heads : eqb w kConstrain ≡ true → within pUsers pTypes p ≡ true → Heads p (keep inTest is)
   pub told : eqb w kConstrain ≡ true → Told (keep inTest is)
-
-pub compared-is : (k : ℕ) → within pUsers pTypes (compared k) ≡ true
-unfolding compared
-compared-is k = by (within kU1 kU2 k) (within kR1 kR2 k)
-  where
-    by : (a b : Bool) → within pUsers pTypes (if a then pUsers else if b then pRoles else pTypes) ≡ true
-    by true b = refl
-    by false true = refl
-    by false false = refl
 
 compares-in : (p : ℕ) → within pUsers pTypes p ≡ true → within pTest pTypes p ≡ true
 compares-in p e =
@@ -200,7 +191,7 @@ shape-of (w ∷ ws) f st n b g h =
         → (gathered c e s st w b r .form ≡ st .kw) × Shape (st .kw) (st .pos) (gathered c e s st w b r .items)
     by true true s o e q r i z h = let x = form-plain st k h in (x .0, over (x .1))
     by true false s o e q r i z h = absurd (false≢true (sym e ∙ starts-ends st k (active-starts k o)))
-    by false true true o e q r i z h = 
+    by false true true o e q r i z h =
         absurd (false≢true (sym (stop-silent st k (either-right (starts k) _ (form-plain st k h .1))) ∙ q))
     by false true false o e q r i z h = let x = form-plain st k h in (x .0, rw (z (semi-out st k (x .1))) (over (x .1)))
     by false false s o e q r i z h =

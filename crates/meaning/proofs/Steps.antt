@@ -8,11 +8,11 @@ use mathlib.Core.Bool.{Bool, true, false, not, _&&_, _||_, false≢true, and-fal
 use mathlib.Core.Logic.{_⊎_, inl, inr}
 use Prim.Native.Nat.{ℕ, _≤_, _<_}
 use native.Mathlib.Omega.{arith}
-use borrow.Author.Tests.{eqb-true, ltb-false}
-use lib.Dec.{eqb, ltb}
+use borrow.Author.Tests.{eqb-true, leb-true, ltb-false}
+use lib.Dec.{eqb, leb, ltb}
 use Rattle.meaning.specs.Plain.{if_then_else_, within}
 use Rattle.meaning.specs.Statements.{Seen, begun, outside, moved, inE, comparing, behind, compared, stepE, stepS, step}
-use Rattle.meaning.specs.Statements.{pFirst, pSecond, pThird, pClass, pOver, pTest, pBehind, minus, ofE, idle, saying, says, ends}
+use Rattle.meaning.specs.Statements.{pFirst, pSecond, pThird, pClass, pOver, pTest, pUsers, pTypes, pBehind, minus, ofE, idle, saying, says, ends}
 use Rattle.meaning.specs.Statements.{formAt}
 use Rattle.meaning.specs.Keywords.{kName, kOpen, kClose, kLparen, kRparen, kSemi, kColon, kComma, kTilde, kStar, kMinus}
 use Rattle.meaning.specs.Keywords.{kClass, kCommon, kRole, kAllow, kIf, kElse, kConstrain, kInherits, kAlias, kTrue, kFalse}
@@ -41,11 +41,14 @@ unfolding ends
 brace-ends st k e f = rw (e, f) (simp or-true)
 
 -- ---- a step
-compared-later : (k : ℕ) → 0 < compared k
+pub compared-is : (k : ℕ) → within pUsers pTypes (compared k) ≡ true
 unfolding compared
-compared-later k =
-    bool-cases (within kU1 kU2 k) (λ e. rw e (omega arith))
-    (λ e. rw e (bool-cases (within kR1 kR2 k) (λ e. rw e (omega arith)) (λ e. rw e (omega arith))))
+compared-is k =
+    let P : ℕ → Type 0 = λ p. within pUsers pTypes p ≡ true in
+    if-all P (within kU1 kU2 k) (λ e. refl) (λ e. if-all P (within kR1 kR2 k) (λ e. refl) (λ e. refl))
+
+compared-later : (k : ℕ) → 0 < compared k
+compared-later k = omega (arith, leb-true pUsers (compared k) (and-both (leb pUsers (compared k)) _ (compared-is k) .0))
 
 behind-later : (st : Seen) → 0 < behind st
 unfolding behind
