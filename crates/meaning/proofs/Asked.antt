@@ -1,5 +1,5 @@
 -- What a question that is not refused is about: both contexts read, with a type of the policy, and the class is one of the policy.
--- By the tests of `judged`, `named` and the three steps of `asked`, one after the other.
+-- By Judged, and the tests of `named` and of the three steps of `asked`, one after the other.
 -- Assumes nothing.
 use mathlib.Core.Path.{_≡_, refl, ap, subst}
 use mathlib.Core.Bool.{Bool, true, false, false≢true}

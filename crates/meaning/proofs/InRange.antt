@@ -1,5 +1,6 @@
 -- Every number that the policy of a text with no earlier refusal holds is in its range, and every set has as many entries as there
--- are names that it is of (`in-range`; of an accepted load `accepted-in-range`). The rows of the rules are in Ruled; the rest is here, kind by kind, in the order of the record.
+-- are names that it is of (`in-range`; of an accepted load `accepted-in-range`). The rows of the rules are in Ruled; the rest is here,
+-- kind by kind, in the order of the record.
 -- Assumes nothing.
 use Prim.Native.Nat.{ℕ, _+_, _<_}
 use mathlib.Core.Path.{_≡_, refl, sym, ap, _∙_}

@@ -1,6 +1,6 @@
 -- The types, roles, users and booleans of a policy are those that the text names, in that order: by their names (`types-named` and so
--- on), so also by their counts (`types-counted` and so on). And every set
--- has as many entries as there are names that it is of (`set-sized`).
+-- on), so also by their counts (`types-counted` and so on). And every set has as many entries as there are names that it is of
+-- (`set-sized`). By induction on the lists, as the definitions go through them.
 -- Assumes nothing.
 use Prim.Native.Nat.{ℕ, _+_}
 use mathlib.Core.Path.{_≡_, refl, sym, ap, _∙_}

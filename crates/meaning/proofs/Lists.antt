@@ -3,7 +3,7 @@
 --   at-among, among-at    an element is what stands at some number below the length
 --   index-found, index-reads    what stands at the number that `indexFrom` finds
 --   first-nowhere    of places: where `firstAt` finds none, no element has one
--- Each is by induction on the list; a step on `if` is taken by a helper over the test's value.
+-- Each is by induction on the list; a step on `if` is taken by cases on the test's value.
 -- Assumes nothing.
 use mathlib.Core.Path.{_≡_, refl, sym, ap, _∙_, subst}
 use mathlib.Core.Bool.{Bool, true, false, _&&_, _||_, false≢true}

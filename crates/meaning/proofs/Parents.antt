@@ -164,11 +164,11 @@ module _ (n : ℕ) (b : Bound) (bs : List Bound) (e : boundClash n bs b ≡ fals
       goes-on b bs (stays b bs (r .1) n (omega arith) no-cycle) (g x .1)
 
 -- ---- all the bounds
--- the parents are below n; nothing is asked of the children
-abbrev pub ParentsBelow : ℕ → List Bound → Type 0
-ParentsBelow n bs = (b : Bound) → Among b bs → b .parent < n
+-- the parents of the bounds are below n; nothing is asked of the children
+abbrev pub BoundsBelow : ℕ → List Bound → Type 0
+BoundsBelow n bs = (b : Bound) → Among b bs → b .parent < n
 
-below-all : (n : ℕ) (bs : List Bound) → ParentsBelow n bs → Below n (parentIn bs)
+below-all : (n : ℕ) (bs : List Bound) → BoundsBelow n bs → Below n (parentIn bs)
 unfolding parentIn
 below-all n [] l y z e = absurd (not-both refl e)
 below-all n (b ∷ bs) l y z e = below-more n b bs (l b (here refl)) (below-all n bs (λ a m. l a (there m))) y z e
@@ -199,7 +199,7 @@ module _ (n : ℕ) (place : Bound → ℕ) where
       (λ q. own-child b (bs ++ before) x q ∙ sym (given-stays (b ∷ before) bs e x (b .parent) (own-child b before x q)))
       (λ h. other-child b (bs ++ before) x h ∙ sym (further b bs before x h))
 
-  go-through : (before bs : List Bound) → firstAgainst (boundClash n) place before bs ≡ nowhere → ParentsBelow n bs
+  go-through : (before bs : List Bound) → firstAgainst (boundClash n) place before bs ≡ nowhere → BoundsBelow n bs
       → Below n (parentIn before) → Ends (parentIn before) → Ends (parentIn (bs ++ before))
   go-through before [] e l w g x = g x
   go-through before (b ∷ bs) e l w g x =
@@ -209,7 +209,7 @@ module _ (n : ℕ) (place : Bound → ℕ) where
       (r .0, like (λ y. Unit {0}) (λ y z h q. tt) (λ y h. in-front before b bs (c .1) y) (r .1) tt)
 
 -- Where the bounds hold no refusal 8 and their parents are below n, each number is grounded, and one below n at a height below n.
-pub bounds-end : (n : ℕ) (place : Bound → ℕ) (bs : List Bound) → firstAgainst (boundClash n) place [] bs ≡ nowhere → ParentsBelow n bs
+pub bounds-end : (n : ℕ) (place : Bound → ℕ) (bs : List Bound) → firstAgainst (boundClash n) place [] bs ≡ nowhere → BoundsBelow n bs
     → (x : ℕ) → (d : ℕ) × Grounded (parentIn bs) x d × (x < n → d < n)
 unfolding parentIn
 bounds-end n place bs e l x =
@@ -235,7 +235,7 @@ unfolding policyOf typesIn typeAt
 parent-is ss x l = entry-parent (namesOf ss) _ _ 0 (namesOf ss .types) x _ x (omega arith) l
 
 -- Each type of a text with no earlier refusal is grounded, with fewer ancestors than there are types.
-pub parents-end : (s : List ℕ) → NoEarlier s → (in-range : ParentsBelow (length (namesIn s .types)) (boundsOf (namesIn s) (statementsIn s)))
+pub parents-end : (s : List ℕ) → NoEarlier s → (in-range : BoundsBelow (length (namesIn s .types)) (boundsOf (namesIn s) (statementsIn s)))
     → (x : ℕ) → x < length (policyIn s .types) → (d : ℕ) × Grounded (parentOf (policyIn s)) x d × (d < length (policyIn s .types))
 parents-end s c in-range x l =
     let n = namesIn s in
@@ -280,7 +280,7 @@ pub asks-all : (p : Policy) (s t : Context) (c i : ℕ) {d : ℕ} → Grounded (
 asks-all p s t c i g k m l h = asks-from p t c i g k m l h s refl
 
 -- So, of a text, a source whose type has a parent is allowed what its own type is and what the question asked again with the parent is.
-pub parent-asked : (s : List ℕ) → NoEarlier s → (in-range : ParentsBelow (length (namesIn s .types)) (boundsOf (namesIn s) (statementsIn s)))
+pub parent-asked : (s : List ℕ) → NoEarlier s → (in-range : BoundsBelow (length (namesIn s .types)) (boundsOf (namesIn s) (statementsIn s)))
     → (a t : Context) (c i y : ℕ) → a .type < length (policyIn s .types) → parentOf (policyIn s) (a .type) ≡ parent y
     → let p = policyIn s in allows p (length (p .types)) a t c i ≡ (ownAllows p a t c i && allows p (length (p .types)) (withType a y) t c i)
 parent-asked s e in-range a t c i y l q =

@@ -1,7 +1,7 @@
 -- What the reading of a text has come to, as far as it bears on the statements' shape: a `Seat` is the statement's keyword, the
 -- position, whether a list is open, and whether an if has begun. From a seat a word leads to one of two (`nexts`), as a parenthesis
 -- is open or not (`next-seat`). `proper` is what holds at each word of a text of the grammar, between the seats before and behind it;
--- `Walks` says that it holds at all of some words (proofs/Walks.antt has that it does).
+-- `Walks` says that it holds at all of some words (Walks has that it does).
 -- Assumes nothing.
 use Prim.Native.Nat.{ℕ, _-_}
 use mathlib.Core.Path.{_≡_, refl}

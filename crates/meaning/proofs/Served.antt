@@ -1,6 +1,6 @@
 -- In a text that is not refused with 4 every name that must be declared is (`found`), so its number is below the count of the names
--- of its kind: of roles, users and booleans (`named-below`), classes (`class-below`) and types, by their own name or by an alias
--- (`type-below`). A name's number is the place of the first that reads so, and one does.
+-- of its kind: of roles, users and booleans (`named-below`), and of classes (`class-below`); of types, which aliases name too, it is
+-- in Aliased. A name's number is the place of the first that reads so, and one does.
 -- Assumes nothing.
 use Prim.Native.Nat.{ℕ, _<_}
 use native.Mathlib.Omega.{arith}

@@ -1,4 +1,4 @@
--- In a text of the grammar every word is proper (`walks`; the test is in proofs/Seats.antt).
+-- In a text of the grammar every word is proper (`walks`; the test is in Seats).
 -- `Goes S g T` says that a text of g, read from a seat of S, is proper and ends in a seat of T; by the shape of g it is found by
 -- computation (`run`). The statements of the sections lead from the seats between statements to these, and an expression from its
 -- seats to these: so a rule of theirs is gone into once (`kept`).
