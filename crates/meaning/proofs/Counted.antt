@@ -13,14 +13,12 @@ use lib.ListN.{length, getD, set, length-set}
 use lib.Seq.{getD-set-same, getD-set-other}
 use Rattle.meaning.specs.Plain.{if_then_else_, keep}
 use Rattle.meaning.specs.Words.{Word}
-use Rattle.meaning.specs.Statements.{Seen, outside, inE, ofE, step, Item, Statement, saying, says, itemOf, ends}
-use Rattle.meaning.specs.Statements.{formAt, Gathered, pFirst, pSecond, pThird, pClass, pTest, pTypes}
+use Rattle.meaning.specs.Statements.{Seen, outside, inE, ofE, step, Item, Statement, saying, says, itemOf, ends, formAt, Gathered, pFirst, pSecond, pThird, pClass, pTest, pTypes}
 use Rattle.meaning.specs.Sizes.{limits, nameCount, formCount, countOf, Counts, noCounts, counted, cIfs, cNone}
 use Rattle.meaning.specs.Keywords.{kClass, kCommon, kIf}
 use Rattle.meaning.proofs.Lists.{bool-cases, and-both, or-cases}
 use Rattle.meaning.proofs.Lengths.{if-all, oneIf, one-le, sum, keep-if, keep-le}
-use Rattle.meaning.proofs.Steps.{active, active-starts, starts-ends, ends-silent, says-what, ofE-in, Form, none, own, perms, types, roles}
-use Rattle.meaning.proofs.Steps.{form-keyword}
+use Rattle.meaning.proofs.Steps.{active, active-starts, starts-ends, ends-silent, says-what, ofE-in, Form, none, own, perms, types, roles, form-keyword}
 use Rattle.meaning.proofs.Passed.{Fine, Passed, done, begins, goes, tail-cases, form-of}
 
 abbrev pub limit : ℕ → ℕ

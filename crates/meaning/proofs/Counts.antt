@@ -14,31 +14,24 @@ use lib.Dec.{eqb, leb}
 use lib.ListN.{length}
 use Rattle.meaning.specs.Plain.{keep, each}
 use Rattle.meaning.specs.Words.{wordsOf}
-use Rattle.meaning.specs.Statements.{Statement, statementsOf, outside, Gathered, part, ofForm, pFirst, pThird, pClass}
-use Rattle.meaning.specs.Statements.{pTest}
-use Rattle.meaning.specs.Sizes.{fits, readText, nameCount, formCount, noCounts, expressionWords, ownPermissions, cTypes}
-use Rattle.meaning.specs.Sizes.{cAttributes, cAliases, cClasses, cCommons, cRoles, cUsers, cBools, cAvRows, cTypeRows}
-use Rattle.meaning.specs.Sizes.{cRoleRules, cIfs, cConstrains}
-use Rattle.meaning.specs.Names.{declared, dType, dAttribute, dRole, dUser, dClass, dCommon, dBool}
+use Rattle.meaning.specs.Statements.{Statement, statementsOf, outside, Gathered, part, ofForm, pFirst, pThird, pClass, pTest}
+use Rattle.meaning.specs.Sizes.{fits, readText, nameCount, formCount, noCounts, expressionWords, ownPermissions, cTypes, cAttributes, cAliases, cClasses, cCommons, cRoles, cUsers, cBools, cAvRows, cTypeRows, cRoleRules, cIfs, cConstrains}
+use Rattle.meaning.specs.Names.{declaresAt, declared, dType, dAttribute, dRole, dUser, dClass, dCommon, dBool}
 use Rattle.meaning.specs.Permissions.{classOf, classesIn, classPart}
 use Rattle.meaning.specs.Sets.{Names, namesOf, nameOf, ofKind, aliasesBy, attributeOf}
 use Rattle.meaning.specs.Policy.{Policy}
-use Rattle.meaning.specs.Rules.{policyOf, typesIn, userOf, switchOf, ruleOf, rulesOf}
-use Rattle.meaning.specs.Rules.{rowsOf, avStatements, typeRowsOf, classNumbers, aliasEntry, roleAllowOf, roleTransitionOf}
-use Rattle.meaning.specs.Rules.{ifOf, constrainOf, constraintWords, readTests, boolToken}
-use Rattle.meaning.specs.Keywords.{kType, kTypealias, kBool, kRoleTransition, kTypeTransition, kTypeMember, kAllow, kIf}
-use Rattle.meaning.specs.Keywords.{kUser, kConstrain, kRoleAllow, isAv, isTypeRule}
+use Rattle.meaning.specs.Rules.{policyOf, typesIn, userOf, switchOf, ruleOf, rulesOf, rowsOf, avStatements, typeRowsOf, classNumbers, aliasEntry, roleAllowOf, roleTransitionOf, ifOf, constrainOf, constraintWords, readTests, boolToken}
+use Rattle.meaning.specs.Keywords.{kClass, kCommon, kAttribute, kRole, kType, kTypealias, kBool, kRoleTransition, kTypeTransition, kTypeMember, kAllow, kIf, kUser, kConstrain, kRoleAllow, isAv, isTypeRule}
 use Rattle.meaning.proofs.Lists.{and-both, or-cases, length-each}
-use Rattle.meaning.proofs.Lengths.{oneIf, All, all-of, all-keep, all-each}
-use Rattle.meaning.proofs.Lengths.{keep-two, joined-each}
+use Rattle.meaning.proofs.Lengths.{oneIf, All, all-of, all-keep, all-each, keep-two, joined-each}
+use Rattle.meaning.proofs.Declared.{just, at-first}
 use Rattle.meaning.proofs.Listed.{types-counted, roles-counted}
 use Rattle.meaning.proofs.Passed.{Passed, text-passed}
 use Rattle.meaning.proofs.Counted.{limit, wholeCount}
 use Rattle.meaning.proofs.Own.{few-words, test-words, few-common, few-own, few-beside, short-names}
 use Rattle.meaning.proofs.Kept.{postfix-le, tests-le}
-use Rattle.meaning.proofs.Held.{few-perms, Fits, kind-fit, types-fit, roles-fit, aliases-fit, users-fit, bools-fit}
-use Rattle.meaning.proofs.Held.{classes-fit}
-use Rattle.meaning.proofs.Limits.{at-within, forms-within, names-within, single-within, kept-within, names-le, home}
+use Rattle.meaning.proofs.Held.{few-perms, Fits, kind-fit, types-fit, roles-fit, aliases-fit, users-fit, bools-fit, classes-fit}
+use Rattle.meaning.proofs.Limits.{at-within, forms-within, names-within, single-within, kept-within, names-le}
 use Rattle.meaning.proofs.Single.{single}
 
 -- the policy that statements make
@@ -114,25 +107,25 @@ constrain-code n s = omega (arith, postfix-le [] (readTests n (constraintWords s
 
 -- ---- the whole
 counts-within : {g : Gathered} → Passed outside noCounts g → Within (g .rest)
-unfolding policyOf namesOf ofKind ofForm home single nameCount formCount wholeCount oneIf classesIn classOf typesIn attributeOf aliasesBy aliasEntry
+unfolding policyOf namesOf ofKind ofForm single declaresAt nameCount formCount wholeCount oneIf classesIn classOf typesIn attributeOf aliasesBy aliasEntry
     userOf switchOf rulesOf avStatements rowsOf ruleOf typeRowsOf
 counts-within {g} p =
     let ss = g .rest in
     let n = namesOf (g .rest) in
     let short = short-names p in
     let words = few-words p in
-    let types : length (n .types) ≤ limit cTypes = rw (length-each nameOf) (names-within p dType cTypes refl (omega arith) refl (omega arith)) in
+    let types : length (n .types) ≤ limit cTypes = rw (length-each nameOf) (names-within p kType dType cTypes (at-first kType dType refl refl refl (λ f q. just _)) (omega arith) refl (omega arith)) in
     let roles : length (n .roles) ≤ limit cRoles + 1 =
-    rw (length-each nameOf) (single-within p dRole cRoles refl (omega arith) refl refl (omega arith)) in
+    rw (length-each nameOf) (single-within p kRole dRole cRoles (at-first kRole dRole refl refl refl (λ f q. just _)) (omega arith) refl refl (omega arith)) in
     record {
       types = rw (types-counted ss) types;
       attributes = rw (length-each (attributeOf _ _), length-each nameOf)
-          (names-within p dAttribute cAttributes refl (omega arith) refl (omega arith));
+          (names-within p kAttribute dAttribute cAttributes (at-first kAttribute dAttribute refl refl refl (λ f q. just _)) (omega arith) refl (omega arith));
       aliases = rw (length-each (aliasEntry _)) (at-within p cAliases (omega arith) (λ k. eqb k kType || eqb k kTypealias) pThird _
           (λ k e. or-cases (eqb k kType) (eqb k kTypealias) e (λ z. rw (eqb-true k kType z)) (λ z. rw (eqb-true k kTypealias z)))
           (λ s e. rw length-each (names-le pThird s)));
-      classes = rw (length-each (classOf _)) (single-within p dClass cClasses refl (omega arith) refl refl (omega arith));
-      commons = rw (length-each nameOf) (names-within p dCommon cCommons refl (omega arith) refl (omega arith));
+      classes = rw (length-each (classOf _)) (single-within p kClass dClass cClasses (at-first kClass dClass refl refl refl (λ f q. just _)) (omega arith) refl refl (omega arith));
+      commons = rw (length-each nameOf) (names-within p kCommon dCommon cCommons (at-first kCommon dCommon refl refl refl (λ f q. just _)) (omega arith) refl (omega arith));
       roles = rw (roles-counted ss) roles;
       users = kept-within p cUsers (omega arith) (λ k. eqb k kUser) pFirst (userOf n) (λ k e. rw (eqb-true k kUser e))
           (λ s e. rw length-each (names-le pFirst s));
@@ -154,8 +147,8 @@ counts-within {g} p =
       constrainCodes = all-each (constrainOf n) (all-keep _ (λ s e h. omega (arith, constrain-code n s)) words);
       typeNames = types;
       roleNames = roles;
-      userNames = rw (length-each nameOf) (names-within p dUser cUsers refl (omega arith) refl (omega arith));
-      boolNames = rw (length-each nameOf) (names-within p dBool cBools refl (omega arith) refl (omega arith));
+      userNames = rw (length-each nameOf) (names-within p kUser dUser cUsers (at-first kUser dUser refl refl refl (λ f q. just _)) (omega arith) refl (omega arith));
+      boolNames = rw (length-each nameOf) (names-within p kBool dBool cBools (at-first kBool dBool refl refl refl (λ f q. just _)) (omega arith) refl (omega arith));
       typeBytes = types-fit ss short n _ _ 0 _ (kind-fit ss short dType);
       attributeBytes = all-each (attributeOf ss _) (kind-fit ss short dAttribute);
       aliasBytes = all-each (aliasEntry n) (aliases-fit ss short);

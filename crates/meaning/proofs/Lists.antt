@@ -103,14 +103,6 @@ pub among-keep : {A : Type 0} (p : A → Bool) {x : A} {l : List A} → Among x 
 among-keep p (here e) q = rw (sym (ap p e) ∙ q) (here e)
 among-keep p (there {x = y} m) q = bool-cases (p y) (λ e. rw e (there (among-keep p m q))) (λ e. rw e (among-keep p m q))
 
-pub keep-append : {A : Type 0} (p : A → Bool) (l r : List A) → keep p (l ++ r) ≡ keep p l ++ keep p r
-keep-append p [] r = refl
-keep-append p (x ∷ l) r = bool-cases (p x) (λ e. rw (e, keep-append p l r)) (λ e. rw (e, keep-append p l r))
-
-pub keep-none : {A : Type 0} (p : A → Bool) → ((x : A) → p x ≡ true → ⊥) → (l : List A) → keep p l ≡ []
-keep-none p h [] = refl
-keep-none p h (x ∷ l) = bool-cases (p x) (λ e. absurd (h x e)) (λ e. rw e (keep-none p h l))
-
 -- ---- each, joined
 pub among-each : {A B : Type 0} (f : A → B) {x : A} {l : List A} → Among x l → Among (f x) (each f l)
 among-each f (here e) = here (ap f e)

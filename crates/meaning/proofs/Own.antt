@@ -12,17 +12,13 @@ use lib.Dec.{eqb}
 use lib.ListN.{length}
 use Rattle.meaning.specs.Plain.{within, keep}
 use Rattle.meaning.specs.Words.{Word}
-use Rattle.meaning.specs.Statements.{Seen, outside, inE, ofE, Item, Statement, saying, says, itemOf, Gathered, part}
-use Rattle.meaning.specs.Statements.{namesAt, pSecond, pFourth, pTest, pTypes}
-use Rattle.meaning.specs.Sizes.{ownLimit, Counts, noCounts, counted, longestName, expressionWords, commonPermissions}
-use Rattle.meaning.specs.Sizes.{ownPermissions, ownBesideCommon}
+use Rattle.meaning.specs.Statements.{Seen, outside, inE, ofE, Item, Statement, saying, says, itemOf, Gathered, part, namesAt, pSecond, pFourth, pTest, pTypes}
+use Rattle.meaning.specs.Sizes.{ownLimit, Counts, noCounts, counted, longestName, expressionWords, commonPermissions, ownPermissions, ownBesideCommon}
 use Rattle.meaning.specs.Rules.{constraintWords}
 use Rattle.meaning.specs.Keywords.{starts, kName, kClass, kCommon, kPerms}
 use Rattle.meaning.proofs.Lists.{bool-cases, and-both, or-cases}
-use Rattle.meaning.proofs.Lengths.{oneIf, All, empty, more, all-map, keep-if}
-use Rattle.meaning.proofs.Lengths.{keep-le}
-use Rattle.meaning.proofs.Steps.{active-starts, left-behind, say-cases, stop-silent, says-what, Form, none, own, perms, types}
-use Rattle.meaning.proofs.Steps.{roles, form-keyword}
+use Rattle.meaning.proofs.Lengths.{oneIf, All, empty, more, all-map, keep-if, keep-le}
+use Rattle.meaning.proofs.Steps.{active-starts, left-behind, say-cases, stop-silent, says-what, Form, none, own, perms, types, roles, form-keyword}
 use Rattle.meaning.proofs.Passed.{Fine, Passed, done, begins, goes, nothing-said, tail-cases, form-of, statements-all}
 
 -- a word that counts adds one, and that stays within its limit

@@ -14,10 +14,8 @@ use lib.ListN.{length, getD}
 use Rattle.meaning.specs.Plain.{if_then_else_}
 use Rattle.meaning.specs.Words.{Word}
 use Rattle.meaning.specs.Grammar.{G, policy, left, isNone}
-use Rattle.meaning.specs.Statements.{Seen, begun, outside, step, ofE, Branch, Statement, says, itemOf, ends, formAt}
-use Rattle.meaning.specs.Statements.{Gathered, gather}
-use Rattle.meaning.specs.Sizes.{limits, countOf, ownLimit, Counts, noCounts, counted, exceeds, placeOf, cNone, longestName}
-use Rattle.meaning.specs.Sizes.{nestedParentheses, Verdict, fits, ungrammatical, oversize, readFrom, readText}
+use Rattle.meaning.specs.Statements.{Seen, begun, outside, step, ofE, Branch, Statement, says, itemOf, ends, formAt, Gathered, gather}
+use Rattle.meaning.specs.Sizes.{limits, countOf, ownLimit, Counts, noCounts, counted, exceeds, placeOf, cNone, longestName, nestedParentheses, Verdict, fits, ungrammatical, oversize, readFrom, readText}
 use Rattle.meaning.specs.Keywords.{kName, kLparen}
 use Rattle.meaning.proofs.Lists.{bool-cases, or-neither}
 use Rattle.meaning.proofs.Lengths.{All, empty, more}

@@ -2,8 +2,8 @@
 --   named   every word at a position where only names may stand is a name
 --   owed    where a name must stand, one stands
 --   told    in a constraint, the words behind u1 .. t2 stand at the position of what these are compared with (`heads`)
--- Every word is proper (Walks); what it does to the reading is in Steps. What is gathered from a word on has its shape if what is gathered behind the word has (`shape-on`), and
--- at the `;` that ends the statement nothing is left to say (`shape-over`).
+-- Every word is proper (Walks); what it does to the reading is in Steps. What is gathered from a word on has its shape if what is
+-- gathered behind the word has (`shape-on`), and at the `;` that ends the statement nothing is left to say (`shape-over`).
 -- Assumes nothing.
 use Prim.Native.Nat.{ℕ}
 use native.Mathlib.Omega.{arith}

@@ -11,12 +11,8 @@ use native.Mathlib.Omega.{arith}
 use borrow.Author.Tests.{eqb-true, leb-true, ltb-false}
 use lib.Dec.{eqb, leb, ltb}
 use Rattle.meaning.specs.Plain.{if_then_else_, within}
-use Rattle.meaning.specs.Statements.{Seen, begun, outside, moved, inE, comparing, behind, compared, stepE, stepS, step}
-use Rattle.meaning.specs.Statements.{pFirst, pSecond, pThird, pClass, pOver, pTest, pUsers, pTypes, pBehind, minus, ofE, idle, saying, says, ends}
-use Rattle.meaning.specs.Statements.{formAt}
-use Rattle.meaning.specs.Keywords.{kName, kOpen, kClose, kLparen, kRparen, kSemi, kColon, kComma, kTilde, kStar, kMinus}
-use Rattle.meaning.specs.Keywords.{kClass, kCommon, kRole, kAllow, kIf, kElse, kConstrain, kInherits, kAlias, kTrue, kFalse}
-use Rattle.meaning.specs.Keywords.{kSelf, kU1, kU2, kR1, kR2, kPerms, kRoleTypes, kRoleAllow, starts, isTerm}
+use Rattle.meaning.specs.Statements.{Seen, begun, outside, moved, inE, comparing, behind, compared, stepE, stepS, step, pFirst, pSecond, pThird, pClass, pOver, pTest, pUsers, pTypes, pBehind, minus, ofE, idle, saying, says, ends, formAt}
+use Rattle.meaning.specs.Keywords.{kName, kOpen, kClose, kLparen, kRparen, kSemi, kColon, kComma, kTilde, kStar, kMinus, kClass, kCommon, kRole, kAllow, kIf, kElse, kConstrain, kInherits, kAlias, kTrue, kFalse, kSelf, kU1, kU2, kR1, kR2, kPerms, kRoleTypes, kRoleAllow, starts, isTerm}
 use Rattle.meaning.proofs.Lists.{bool-cases, and-both, or-cases}
 use Rattle.meaning.proofs.Lengths.{if-all}
 
