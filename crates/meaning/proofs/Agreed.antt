@@ -6,7 +6,6 @@
 -- results are equal holds both ways round and of an element with itself, so the order goes (`any-two`).
 -- Assumes nothing.
 use Prim.Native.Nat.{ℕ, zero, suc}
-use native.Mathlib.Omega.{arith}
 use mathlib.Core.Path.{_≡_, refl, sym, ap, _∙_, subst}
 use mathlib.Core.Bool.{Bool, true, false, _&&_, false≢true}
 use mathlib.Core.List.{List, [], _∷_}
@@ -18,16 +17,13 @@ use Rattle.meaning.specs.Sets.{Names}
 use Rattle.meaning.specs.Policy.{Set, holds, meet, TypeRow, RoleTransition, Policy}
 use Rattle.meaning.specs.Rules.{boundsOf}
 use Rattle.meaning.specs.Contradictions.{typesClash, rolesClash, firstAgainst, withAny, boundClash, contradiction}
-use Rattle.meaning.proofs.Lists.{Among, here, there, among-any}
+use Rattle.meaning.proofs.Lists.{bool-cases, Among, here, there, among-any, if-nowhere}
 
 -- ---- no place
-somewhere : (p : ℕ) → at p ≡ nowhere → ⊥
-somewhere p e = let z : _≡_ {A = ℕ} 0 1 = cc in omega arith
-
 earlier-nowhere : (a b : Spot) → earlier a b ≡ nowhere → (a ≡ nowhere) × (b ≡ nowhere)
 earlier-nowhere nowhere b e = (refl, e)
-earlier-nowhere (at p) nowhere e = absurd (somewhere p e)
-earlier-nowhere (at p) (at q) e = absurd (somewhere _ e)
+earlier-nowhere (at p) nowhere e = absurd (false≢true (cc))
+earlier-nowhere (at p) (at q) e = absurd (false≢true (cc))
 
 -- Where there is no contradiction there is none of each of the three kinds.
 pub parts-agree : (n : Names) (ss : List Statement) (p : Policy) → contradiction n ss p ≡ nowhere
@@ -45,19 +41,10 @@ pub clear-step : {A : Type 0} (clash : List A → A → Bool) (place : A → ℕ
     → firstAgainst clash place before (x ∷ xs) ≡ nowhere
     → (clash before x ≡ false) × (firstAgainst clash place (x ∷ before) xs ≡ nowhere)
 unfolding firstAgainst
-clear-step clash place before x xs = go (clash before x)
-  where
-    go : (c : Bool) → (if c then at (place x) else firstAgainst clash place (x ∷ before) xs) ≡ nowhere
-        → (c ≡ false) × (firstAgainst clash place (x ∷ before) xs ≡ nowhere)
-    go true e = absurd (somewhere (place x) e)
-    go false e = (refl, e)
+clear-step clash place before x xs = if-nowhere (clash before x) (place x) _
 
 none-of : {A : Type 0} (p : A → Bool) {x : A} {l : List A} → any p l ≡ false → Among x l → p x ≡ false
-none-of p {x = x} {l = l} e m = go (p x) refl
-  where
-    go : (b : Bool) → p x ≡ b → b ≡ false
-    go true q = absurd (false≢true (sym e ∙ among-any p m q))
-    go false q = refl
+none-of p {x = x} e m = bool-cases (p x) (λ q. absurd (false≢true (sym e ∙ among-any p m q))) (λ q. q)
 
 module _ {A : Type 0} (clash : A → A → Bool) (place : A → ℕ) where
   not-before : {before : List A} {l : List A} {a b : A} → firstAgainst (withAny clash) place before l ≡ nowhere

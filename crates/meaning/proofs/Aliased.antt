@@ -3,19 +3,20 @@
 -- The first word of a part where a name must stand is a name (`first-name`): what there is to say of it then is said of that name.
 -- Assumes nothing.
 use Prim.Native.Nat.{ℕ, _<_}
-use mathlib.Core.Path.{_≡_, refl, sym, ap, _∙_}
+use mathlib.Core.Path.{_≡_, refl, _∙_}
 use mathlib.Core.Bool.{Bool, true, false, _||_, false≢true}
 use mathlib.Core.List.{List, [], _∷_}
 use borrow.Author.Tests.{eqb-true}
 use lib.Dec.{eqb}
 use lib.ListN.{length}
-use Rattle.meaning.specs.Plain.{joined, sameBytes}
+use Rattle.meaning.specs.Plain.{joined}
 use Rattle.meaning.specs.Keywords.{kName, kType, kTypealias, kTypebounds}
 use Rattle.meaning.specs.Statements.{Item, Statement, part, namesAt, ofForm, pFirst, pSecond, pThird}
 use Rattle.meaning.specs.Names.{firstText, usesAt, aType, dType, dAlias}
-use Rattle.meaning.specs.Sets.{Alias, namesOf, aliasesBy, typeNamed}
+use Rattle.meaning.specs.Sets.{Alias, namesOf, aliasesBy}
 use Rattle.meaning.specs.Rules.{typeNumber, Bound, boundsBy, boundsOf}
-use Rattle.meaning.proofs.Lists.{bool-cases, or-cases, bytes-same, Among, here, there, keep-among, among-keep, each-among, joined-among}
+use Rattle.meaning.proofs.Lists.{bool-cases, or-cases, if-among, Among, here, keep-among, among-keep, each-among, joined-among}
+use Rattle.meaning.proofs.Typed.{alias-cases}
 use Rattle.meaning.proofs.Accepted.{NoEarlier, statementsIn, namesIn}
 use Rattle.meaning.proofs.Seats.{due, paid, namesOnly}
 use Rattle.meaning.proofs.Forms.{plainForm}
@@ -66,20 +67,6 @@ module _ (s : List ℕ) (c : NoEarlier s) {st : Statement} (m : Among st (statem
       first-name n (part p st) (λ i k d. among-keep (λ i. eqb (i .pos) p) k (h (i .pos) d))
       (λ i k. let r = keep-among (λ i. eqb (i .pos) p) (st .items) k in (r .0, rw (eqb-true (i .pos) p (r .1)) d))
 
--- of the name x: it is an alias, or none is of that name
-alias-cases : {P : Type 0} (al : List Alias) (x : List ℕ) → ((a : Alias) → Among a al → typeNamed al x ≡ a .type → P)
-    → (typeNamed al x ≡ x → ((a : Alias) → Among a al → a .name .text ≡ x → ⊥) → P) → P
-unfolding typeNamed
-alias-cases [] x f g = g refl (λ a m e. elim m [ ])
-alias-cases (a ∷ al) x f g =
-    bool-cases (sameBytes x (a .name .text)) (λ e. f a (here refl) (rw e))
-    (λ e. alias-cases al x (λ b m q. f b (there m) (rw e q)) (λ q n. g (rw e q) (λ b m. other b m e n)))
-  where
-    other : (b : Alias) → Among b (a ∷ al) → sameBytes x (a .name .text) ≡ false → ((b : Alias) → Among b al → b .name .text ≡ x → ⊥)
-        → b .name .text ≡ x → ⊥
-    other b (here h) e n q = false≢true (sym e ∙ rw (sym (ap (λ b. b .name .text) h) ∙ q) (bytes-same x))
-    other b (there m) e n q = n b m q
-
 left-of : (a : Bool) → (a || false || false) ≡ true → a ≡ true
 left-of true e = refl
 left-of false e = absurd (false≢true e)
@@ -108,18 +95,15 @@ module _ (s : List ℕ) (c : NoEarlier s) where
   unfolding aliasesBy
   alias-typed m =
       let (st, mst, ma) = joined-among aliasesBy ss m in
-      bool-cases (eqb (st .form) kType || eqb (st .form) kTypealias)
-      (λ e. let r = each-among _ (namesAt pThird st) (rw (e, aliasesBy) at ma) in rw (r .2) (type-of mst e))
-      (λ e. nothing (rw (e, aliasesBy) at ma))
-    where
-      nothing : {P : Type 0} {a : Alias} → Among a [] → P
-      nothing m = elim m [ ]
+      let (e, mi) = if-among (eqb (st .form) kType || eqb (st .form) kTypealias) _ ma in
+      let r = each-among _ (namesAt pThird st) mi in
+      rw (r .2) (type-of mst e)
 
   -- A type's name or an alias has the number of a type.
   pub type-below : (x : List ℕ) → Found ss aType x → typeNumber (namesIn s) x < length (namesIn s .types)
   unfolding typeNumber namesOf
   type-below x r =
-      alias-cases (joined aliasesBy ss) x (λ a m e. rw e (named-below ss dType (a .type) (alias-typed m)))
+      alias-cases (joined aliasesBy ss) x (λ a m q e. rw e (named-below ss dType (a .type) (alias-typed m)))
       (λ e no. rw e (bool-cases (eqb (r .decl .kind) dType)
       (λ t. named-below ss dType x (record { decl = r .decl; among = r .among; kind = rw t; reads = r .reads }))
       (λ t.

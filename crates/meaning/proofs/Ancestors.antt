@@ -8,7 +8,6 @@ use mathlib.Core.List.{List}
 use Prim.Native.Nat.{ℕ, _<_, _≤_}
 use native.Mathlib.Omega.{arith}
 use lib.ListN.{length}
-use Rattle.meaning.specs.Words.{wordsOf}
 use Rattle.meaning.specs.Sizes.{limits}
 use Rattle.meaning.specs.Policy.{parent, Policy}
 use Rattle.meaning.specs.Contexts.{Context}

@@ -10,28 +10,15 @@ use native.Mathlib.Omega.{arith}
 use borrow.Author.Tests.{eqb-true, eq-eqb, ne-eqb, lt-ltb, ltb-true, ltb-false, leb-true}
 use lib.Dec.{eqb, ltb, leb}
 use lib.ListN.{length, getD}
-use Rattle.meaning.specs.Plain.{if_then_else_, any, keep, each, joined, within, Spot, nowhere, at, orElse, firstAt}
+use Rattle.meaning.specs.Plain.{if_then_else_, any, keep, each, joined, within, nowhere, at, firstAt}
 use Rattle.meaning.specs.Statements.{Item, Statement}
 use Rattle.meaning.specs.Names.{Decl, declares, declOf, declaredBy, declared, objectR, repeats, space, permDecls, twiceWord, secondPerms, twiceIn, declaredTwice, dNone, dType, dRole, dClass, dBool, dPerm}
 use Rattle.meaning.specs.Permissions.{classOf, classesIn}
 use Rattle.meaning.specs.Sets.{nameOf, ofKind, namesOf}
-use Rattle.meaning.proofs.Lists.{Among, here, there, bool-cases, and-both, bytes-same, keep-among, among-keep, each-among, joined-among, among-any, at-among, among-at, length-each, getD-each}
+use Rattle.meaning.proofs.Lists.{Among, there, bool-cases, and-both, bytes-same, keep-among, among-keep, each-among, joined-among, among-any, at-among, among-at, length-each, getD-each, if-nowhere, first-nowhere}
 use Rattle.meaning.proofs.Sorted.{Sorted, sorted-keep}
 use Rattle.meaning.proofs.Places.{declarations-sorted}
 use Rattle.meaning.proofs.Accepted.{statementsIn, namesIn}
-
--- ---- spots
-else-nowhere : (x y : Spot) → orElse x y ≡ nowhere → (x ≡ nowhere) × (y ≡ nowhere)
-else-nowhere nowhere y e = (refl, e)
-else-nowhere (at p) y e = let z : _≡_ {A = ℕ} 0 1 = cc in absurd (omega arith)
-
-if-nowhere : (b : Bool) (p : ℕ) (r : Spot) → (if b then at p else r) ≡ nowhere → (b ≡ false) × (r ≡ nowhere)
-if-nowhere true p r e = let z : _≡_ {A = ℕ} 0 1 = cc in absurd (omega arith)
-if-nowhere false p r e = (refl, e)
-
-pub first-nowhere : {A : Type 0} (f : A → Spot) (l : List A) {x : A} → firstAt f l ≡ nowhere → Among x l → f x ≡ nowhere
-first-nowhere f (y ∷ l) e (here q) = ap f q ∙ else-nowhere (f y) (firstAt f l) e .0
-first-nowhere f (y ∷ l) e (there m) = first-nowhere f l (else-nowhere (f y) (firstAt f l) e .1) m
 
 -- ---- in order, what stands at a smaller number is smaller
 sorted-at : {A : Type 0} (R : A → A → Type 0) (l : List A) (d : A) → Sorted R l → (i j : ℕ) → i < j → j < length l → R (getD l i d) (getD l j d)
@@ -67,9 +54,9 @@ module _ (ss : List Statement) (once : declaredTwice ss ≡ nowhere) where
   item-differs st i x m k n d h =
       let ds = declared ss in
       let ps = permDecls ss st in
-      let a = first-nowhere (twiceIn ss ds) ss once m in
+      let a = first-nowhere (twiceIn ss ds) once m in
       let b = if-nowhere (secondPerms ss st) (st .at) (firstAt (twiceWord ds ps st) (st .items)) a .1 in
-      let c = first-nowhere (twiceWord ds ps st) (st .items) b k in
+      let c = first-nowhere (twiceWord ds ps st) b k in
       let y : Bool = not (eqb (declares st i) dNone) && any (repeats (declOf st i)) (if eqb (declares st i) dPerm then ps else ds) in
       let r = is-declared (declares st i) d in
       let t : y ≡ true = rw (r .0, r .1) (among-any (repeats (declOf st i)) n h) in

@@ -1,49 +1,32 @@
 -- What a question that is not refused is about: both contexts read, with a type of the policy, and the class is one of the policy.
--- By the tests of `judged`, `named` and the three steps of `asked`, one after the other.
+-- By Judged, and the tests of `named` and of the three steps of `asked`, one after the other.
 -- Assumes nothing.
-use mathlib.Core.Path.{_≡_, refl, sym, ap, subst}
-use mathlib.Core.Bool.{Bool, true, false, not}
+use mathlib.Core.Path.{_≡_, refl, ap, subst}
+use mathlib.Core.Bool.{Bool, true, false, false≢true}
 use mathlib.Core.List.{List, [], _∷_}
 use Prim.Native.Nat.{ℕ, _<_}
-use native.Mathlib.Omega.{arith}
-use borrow.Author.Tests.{not-false, ltb-true}
+use borrow.Author.Tests.{ltb-true}
 use lib.Dec.{ltb}
 use lib.ListN.{length, getD}
 use Rattle.meaning.specs.Plain.{if_then_else_}
 use Rattle.meaning.specs.Policy.{Policy}
 use Rattle.meaning.specs.Rules.{classNumber}
-use Rattle.meaning.specs.Contexts.{Context, Wrong, noUser, noRole, noType, roleWithoutType, userWithoutRole, Reading, wrong, reads, isObject, roleHas, userHas, judged, parts, named, contextOf, nameless, typeNumber, classAt, Asked, refusedWith, about, askedClass, askedTarget, askedSource, asked}
+use Rattle.meaning.specs.Contexts.{Context, Reading, wrong, reads, judged, parts, named, contextOf, nameless, typeNumber, classAt, Asked, refusedWith, about, askedClass, askedTarget, askedSource, asked}
 use Rattle.meaning.specs.Refusals.{noClass}
 use Rattle.meaning.proofs.Lists.{index-reads}
+use Rattle.meaning.proofs.Judged.{read-only}
 
 -- ---- contexts
-if-reads : (b : Bool) (w : Wrong) (r : Reading) (c : Context) → (if b then wrong w else r) ≡ reads c → (b ≡ false) × (r ≡ reads c)
-if-reads true w r c e = let z : _≡_ {A = ℕ} 0 1 = cc in absurd (omega arith)
-if-reads false w r c e = (refl, e)
-
--- valid or not, what is read is the context judged
-same-context : (a b c : Bool) (v w : Wrong) (x y : Context) → (if a then reads x else if b then wrong v else if c then wrong w else reads x) ≡ reads y → x ≡ y
-same-context true b c v w x y e = cc
-same-context false true c v w x y e = let z : _≡_ {A = ℕ} 0 1 = cc in absurd (omega arith)
-same-context false false true v w x y e = let z : _≡_ {A = ℕ} 0 1 = cc in absurd (omega arith)
-same-context false false false v w x y e = cc
-
 judged-type : (p : Policy) (c d : Context) → judged p c ≡ reads d → (d .type ≡ c .type) × (d .type < length (p .types))
-unfolding judged
-judged-type p c d e =
-    let u = if-reads (not (ltb (c .user) (length (p .users)))) noUser _ d e in
-    let r = if-reads (not (ltb (c .role) (length (p .roles)))) noRole _ d (u .1) in
-    let t = if-reads (not (ltb (c .type) (length (p .types)))) noType _ d (r .1) in
-    let q = same-context (isObject c) (not (roleHas p c)) (not (userHas p c)) roleWithoutType userWithoutRole c d (t .1) in
-    (ap (λ x. x .type) (sym q), subst (λ x. x .type < length (p .types)) q (ltb-true _ _ (not-false _ (t .0))))
+judged-type p c d e = let h = read-only p c d e in rw (← (h .2)) (refl, h .0 .type)
 
 named-type : (p : Policy) (l : List (List ℕ)) (d : Context) → named p l ≡ reads d → (d .type ≡ typeNumber p (getD l 2 [])) × (d .type < length (p .types))
 unfolding named
-named-type p [] d e = let z : _≡_ {A = ℕ} 0 1 = cc in absurd (omega arith)
-named-type p (u ∷ []) d e = let z : _≡_ {A = ℕ} 0 1 = cc in absurd (omega arith)
-named-type p (u ∷ r ∷ []) d e = let z : _≡_ {A = ℕ} 0 1 = cc in absurd (omega arith)
+named-type p [] d e = absurd (false≢true (cc))
+named-type p (u ∷ []) d e = absurd (false≢true (cc))
+named-type p (u ∷ r ∷ []) d e = absurd (false≢true (cc))
 named-type p (u ∷ r ∷ t ∷ []) d e = judged-type p _ d e
-named-type p (u ∷ r ∷ t ∷ x ∷ xs) d e = let z : _≡_ {A = ℕ} 0 1 = cc in absurd (omega arith)
+named-type p (u ∷ r ∷ t ∷ x ∷ xs) d e = absurd (false≢true (cc))
 
 -- A context that reads has the type of the policy that its third part names.
 pub reads-type : (p : Policy) (x : List ℕ) (d : Context) → contextOf p x ≡ reads d
@@ -60,7 +43,7 @@ pub record About (p : Policy) (x y k : List ℕ) (a b : Context) (m : ℕ) : Typ
 
 if-about : (q : Bool) (x : Asked) (n : ℕ) (a b : Context) (m : ℕ) → (if q then x else refusedWith n) ≡ about a b m → (q ≡ true) × (x ≡ about a b m)
 if-about true x n a b m e = (refl, e)
-if-about false x n a b m e = let z : _≡_ {A = ℕ} 0 1 = cc in absurd (omega arith)
+if-about false x n a b m e = absurd (false≢true (cc))
 
 about-class : (p : Policy) (c d : Context) (k : List ℕ) (a b : Context) (m : ℕ) → askedClass p c d k ≡ about a b m
     → (c ≡ a) × (d ≡ b) × (classNumber (p .classes) k ≡ m) × (m < length (p .classes))
@@ -75,13 +58,13 @@ about-class p c d k a b m e =
 about-target : (p : Policy) (c : Context) (k : List ℕ) (r : Reading) (a b : Context) (m : ℕ) → askedTarget p c r k ≡ about a b m
     → (c ≡ a) × (r ≡ reads b) × (classNumber (p .classes) k ≡ m) × (m < length (p .classes))
 unfolding askedTarget
-about-target p c k (wrong w) a b m e = let z : _≡_ {A = ℕ} 0 1 = cc in absurd (omega arith)
+about-target p c k (wrong w) a b m e = absurd (false≢true (cc))
 about-target p c k (reads d) a b m e = let h = about-class p c d k a b m e in (h .0, ap reads (h .1), h .2, h .3)
 
 about-source : (p : Policy) (y k : List ℕ) (r : Reading) (a b : Context) (m : ℕ) → askedSource p r y k ≡ about a b m
     → (r ≡ reads a) × (contextOf p y ≡ reads b) × (classNumber (p .classes) k ≡ m) × (m < length (p .classes))
 unfolding askedSource
-about-source p y k (wrong w) a b m e = let z : _≡_ {A = ℕ} 0 1 = cc in absurd (omega arith)
+about-source p y k (wrong w) a b m e = absurd (false≢true (cc))
 about-source p y k (reads c) a b m e = let h = about-target p c k (contextOf p y) a b m e in (ap reads (h .0), h .1, h .2, h .3)
 
 -- The class found for a name has that name.

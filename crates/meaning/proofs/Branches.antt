@@ -16,8 +16,9 @@ use Rattle.meaning.specs.Words.{Word, wordsOf}
 use Rattle.meaning.specs.Statements.{Seen, outside, step, Branch, always, whenTrue, whenFalse, Statement, statementsOf, ends, formAt, branchAt, Gathered, gather, ofForm, says}
 use Rattle.meaning.proofs.Lists.{bool-cases, Among, here, there}
 use Rattle.meaning.proofs.Reading.{kinds}
-use Rattle.meaning.proofs.Seats.{begunIf, opens, proper-is, Walks}
-use Rattle.meaning.proofs.Shapes.{gathered, keyword-on, opens-ends, text-walks}
+use Rattle.meaning.proofs.Steps.{active, active-starts, starts-ends, stays}
+use Rattle.meaning.proofs.Seats.{begunIf, proper-is, Walks}
+use Rattle.meaning.proofs.Shapes.{gathered, text-walks}
 use Rattle.meaning.proofs.Accepted.{NoEarlier, statementsIn}
 
 -- the if of a branch is one of the first n
@@ -35,11 +36,7 @@ abbrev counted : ℕ → ℕ → ℕ
 counted n k = if eqb k kIf then n + 1 else n
 
 begun-some : (f : Bool) (n k : ℕ) → (f ≡ true → 1 ≤ n) → begunIf f k ≡ true → 1 ≤ counted n k
-begun-some f n k h = by (eqb k kIf)
-  where
-    by : (c : Bool) → (if c then true else f) ≡ true → 1 ≤ (if c then n + 1 else n)
-    by true e = omega arith
-    by false e = h e
+begun-some f n k h = bool-cases (eqb k kIf) (λ e. rw e (λ z. omega arith)) (λ e. rw e h)
 
 -- behind a word
 branch-on : (f : Bool) (st : Seen) (n : ℕ) (b : Branch) (k : ℕ) → (f ≡ true → 1 ≤ n) → (not (eqb k kElse) || f) ≡ true
@@ -55,13 +52,13 @@ branch-on f st n b k h p l = by (eqb k kIf) (eqb k kElse) (eqb k kClose && not (
     by false false false p = l
 
 -- ---- an if that a statement comes behind is ended
-if-ended : (ws : List Word) (f : Bool) (st : Seen) (n : ℕ) (b : Branch) → Walks f st (kinds ws) → eqb (st .kw) kIf ≡ true
+if-ended : (ws : List Word) (st : Seen) (n : ℕ) (b : Branch) → eqb (st .kw) kIf ≡ true
     → {x : Statement} → Among x (gather st n b ws .rest) → eqb (gather st n b ws .form) kIf ≡ true
-unfolding gather Walks
-if-ended [] f st n b g e m = elim m [ ]
-if-ended (w ∷ ws) f st n b g e m =
-    by (opens k) (ends st k) refl refl _
-    (λ q m. if-ended ws (begunIf f k) (step st k) _ _ (g .1) (rw (keyword-on f st k (proper-is _ k _ (g .0)) q) e) m) m
+unfolding gather
+if-ended [] st n b e m = elim m [ ]
+if-ended (w ∷ ws) st n b e m =
+    by (active k) (ends st k) refl refl _
+    (λ q m. if-ended ws (step st k) _ _ (rw (stays st k q) e) m) m
   where
     k : ℕ
     k = w .kind
@@ -69,12 +66,12 @@ if-ended (w ∷ ws) f st n b g e m =
     form-if : eqb (formAt st k) kIf ≡ true
     form-if = unfold formAt in rw (eqb-true (st .kw) kIf e, formAt)
 
-    by : (c d : Bool) → opens k ≡ c → ends st k ≡ d → (r : Gathered) {x : Statement}
+    by : (c d : Bool) → active k ≡ c → ends st k ≡ d → (r : Gathered) {x : Statement}
         → (ends st k ≡ false → Among x (r .rest) → eqb (r .form) kIf ≡ true)
         → Among x (gathered c d (says st k) st w b r .rest) → eqb (gathered c d (says st k) st w b r .form) kIf ≡ true
     by true true o q r h m = form-if
     by false true o q r h m = form-if
-    by true false o q r h m = absurd (false≢true (sym q ∙ opens-ends st k o))
+    by true false o q r h m = absurd (false≢true (sym q ∙ starts-ends st k (active-starts k o)))
     by false false o q r h m = h q m
 
 -- ---- the branches
@@ -94,10 +91,10 @@ branches : (ws : List Word) (f : Bool) (st : Seen) (n : ℕ) (b : Branch) → Wa
 unfolding gather Walks
 branches [] f st n b g h l m = elim m [ ]
 branches (w ∷ ws) f st n b g h l m =
-    by (opens k) refl _
+    by (active k) refl _
     (λ m. branches ws (begunIf f k) (step st k) (counted n k) (branchAt st n b k) (g .1) (begun-some f n k h)
     (branch-on f st n b k h (proper-is _ k _ (g .0) .else-behind) l) m)
-    (λ q m. if-ended ws (begunIf f k) (step st k) _ _ (g .1) (begun-if q) m) m
+    (λ q m. if-ended ws (step st k) _ _ (begun-if q) m) m
   where
     k : ℕ
     k = w .kind
@@ -105,7 +102,7 @@ branches (w ∷ ws) f st n b g h l m =
     begun-if : eqb k kIf ≡ true → eqb (step st k .kw) kIf ≡ true
     begun-if q = unfold step in rw (eqb-true k kIf q)
 
-    by : (c : Bool) → opens k ≡ c → (r : Gathered) {x : Statement}
+    by : (c : Bool) → active k ≡ c → (r : Gathered) {x : Statement}
         → (Among x (r .rest) → Below (counted n k + ifs (r .rest)) (x .branch))
         → (eqb k kIf ≡ true → Among x (r .rest) → eqb (r .form) kIf ≡ true)
         → Among x (gathered c (ends st k) (says st k) st w b r .rest)

@@ -7,10 +7,9 @@ use mathlib.Core.Bool.{Bool, true, false, _&&_}
 use mathlib.Core.List.{List, [], _∷_, _++_}
 use lib.Dec.{T, eqb}
 use lib.ListN.{replicate}
-use Rattle.meaning.specs.Plain.{if_then_else_, every, sameBytes}
+use Rattle.meaning.specs.Plain.{every, sameBytes}
 use Rattle.meaning.specs.Keywords.{bytes}
 use Rattle.meaning.specs.Policy.{Policy}
-use Rattle.meaning.specs.Neverallow.{Clash}
 use Rattle.meaning.specs.Access.{Answer, access}
 use Rattle.meaning.specs.Computed.{Text, compute, create, outputOf}
 use Rattle.meaning.specs.Questions.{switch}

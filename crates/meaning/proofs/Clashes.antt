@@ -8,16 +8,15 @@
 use mathlib.Core.Path.{_≡_, refl, sym, ap, _∙_, subst, transport}
 use mathlib.Core.Bool.{Bool, true, _&&_, false≢true}
 use mathlib.Core.List.{List, [], _∷_, _++_}
-use Prim.Native.Nat.{ℕ, zero, suc, _<_}
-use native.Mathlib.Omega.{arith}
+use Prim.Native.Nat.{ℕ, _<_}
 use borrow.Author.Tests.{eqb-true, eq-eqb}
 use lib.Dec.{eqb}
 use lib.ListN.{length, getD}
 use Rattle.meaning.specs.Plain.{keep, each, joined, upTo}
-use Rattle.meaning.specs.Policy.{Set, holds, Rule}
+use Rattle.meaning.specs.Policy.{holds, Rule}
 use Rattle.meaning.specs.Neverallow.{Clash, Search, kept, rulePair, rulePerms, Two, pair, targetsOf, pairsOf, sharedOf, permissionsOf, clashAt, clashesOf, ofKind, clashes, headOf, orNext, firstOver, neverBroken}
 use Rattle.meaning.specs.Keywords.{kAllow, kNeverallow}
-use Rattle.meaning.proofs.Lists.{Among, and-both, both-and, keep-among, among-keep, each-among, among-each, joined-among, among-joined, among-upTo, upTo-among, holds-below}
+use Rattle.meaning.proofs.Lists.{Among, and-both, both-and, keep-among, among-keep, each-among, among-each, joined-among, among-joined, among-upTo, upTo-among, getD-below, holds-below}
 
 -- ---- the search
 head-append : (l r : List Clash) → headOf (l ++ r) ≡ orNext (headOf l) (headOf r)
@@ -93,11 +92,6 @@ bothPerm a b c i = holds (rulePerms a c) i && holds (rulePerms b c) i
 abbrev pub permCount : Rule → ℕ → ℕ
 permCount a c = length (rulePerms a c)
 
-pub class-below : (l : List Set) (c i : ℕ) → holds (getD l c []) i ≡ true → c < length l
-class-below [] c i e = absurd (false≢true e)
-class-below (x ∷ l) zero i e = omega arith
-class-below (x ∷ l) (suc c) i e = let r = class-below l c i e in omega arith
-
 in-source : (r : Rule) (s t : ℕ) → rulePair r s t ≡ true → holds (r .source) s ≡ true
 unfolding rulePair
 in-source r s t e = and-both (holds (r .source) s) _ e .0
@@ -133,7 +127,7 @@ module _ (n : ℕ) (a b : Rule) where
       let p = and-both (rulePair a s t) (holds (getD (a .perms) c []) i) ha in
       let q = and-both (rulePair b s t) (holds (getD (b .perms) c []) i) hb in
       let ms : Among s (those n (bothSource a b)) = among-those n (bothSource a b) hs (both-and _ _ (in-source a s t (p .0)) (in-source b s t (q .0))) in
-      let mc : Among c (upTo (length (a .perms))) = among-upTo (length (a .perms)) c (class-below (a .perms) c i (p .1)) in
+      let mc : Among c (upTo (length (a .perms))) = among-upTo (length (a .perms)) c (getD-below (λ x. holds x i) (a .perms) c [] refl (p .1)) in
       among-joined (λ x. each (clashAt a b x) (permissionsOf a b)) (among-pairs (λ s. n) (bothPair a b) ms ht (both-and _ _ (p .0) (q .0)))
       (among-each (clashAt a b (pair s t))
       (among-pairs (permCount a) (bothPerm a b) mc (holds-below (getD (a .perms) c []) i (p .1)) (both-and _ _ (p .1) (q .1))))
@@ -193,7 +187,7 @@ of-clash n rs h =
 found : (l : List Clash) {x : Clash} → Among x l → headOf l ≡ kept → ⊥
 unfolding headOf
 found [] m e = elim m [ ]
-found (c ∷ l) m e = let z : _≡_ {A = ℕ} 0 1 = cc in omega arith
+found (c ∷ l) m e = false≢true (cc)
 
 -- A search that finds nothing leaves no clash.
 pub none-left : (n : ℕ) (rs : List Rule) {x : Clash} → neverBroken n rs ≡ kept → ClashOf n rs x → ⊥

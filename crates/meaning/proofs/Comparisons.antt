@@ -17,7 +17,8 @@ use Rattle.meaning.specs.Expressions.{Token, leaf, sign, negation, lpar,
 use Rattle.meaning.specs.Policy.{Set, Test}
 use Rattle.meaning.specs.Rules.{setOf, typesOf, rolesOf, twoSided, markToken, comparedSet, Read, behindTest, testOf, readTests}
 use Rattle.meaning.proofs.Lists.{bool-cases, Among, here, there}
-use Rattle.meaning.proofs.Shapes.{Heads, Told, compared-is}
+use Rattle.meaning.proofs.Steps.{compared-is}
+use Rattle.meaning.proofs.Shapes.{Heads, Told}
 use Rattle.meaning.proofs.Listed.{set-sized, types-sized, roles-sized}
 
 -- how many there are of what u1 .. t2 are
@@ -77,12 +78,7 @@ module _ (n : Names) where
 
   test-of : (k : ℕ) (r : Read) → isTerm k ≡ true → r .pos ≡ compared k → FitsHere (testOf n k r)
   unfolding testOf
-  test-of k r t q = record { who = t; set = by (r .pair) }
-    where
-      by : (b : Bool) → length (if b then [] else comparedSet n (r .pos) (r .names))
-          ≡ (if b then 0 else sideSize (length (n .users)) (length (n .roles)) (length (n .types)) k)
-      by true = refl
-      by false = rw q (set-fits n k (r .names))
+  test-of k r t q = record { who = t; set = bool-cases (r .pair) (λ e. rw e) (λ e. rw (e, q) (set-fits n k (r .names))) }
 
   one-more : {e : Test} (y : Token Test) (ts : List (Token Test)) → Among (leaf e) (y ∷ ts) → (leaf e ≡ y → FitsHere e)
       → (Among (leaf e) ts → FitsHere e) → FitsHere e

@@ -3,7 +3,7 @@
 -- one that the reading counts (`pays`); so what is left of the limit bounds the shares still to come (`shares`).
 -- Assumes nothing.
 use mathlib.Core.Path.{_≡_, refl, sym, _∙_}
-use mathlib.Core.Bool.{Bool, true, false, not, _&&_, _||_, false≢true}
+use mathlib.Core.Bool.{Bool, true, false, _&&_, _||_, false≢true, and-false}
 use mathlib.Core.List.{List}
 use Prim.Native.Nat.{ℕ, _+_, _-_, _≤_, _<_}
 use native.Mathlib.Omega.{arith}
@@ -13,14 +13,12 @@ use lib.ListN.{length, getD, set, length-set}
 use lib.Seq.{getD-set-same, getD-set-other}
 use Rattle.meaning.specs.Plain.{if_then_else_, keep}
 use Rattle.meaning.specs.Words.{Word}
-use Rattle.meaning.specs.Statements.{Seen, outside, inE, ofE, step, Item, Statement, saying, idle, says, itemOf, ends}
-use Rattle.meaning.specs.Statements.{formAt, Gathered, pFirst, pSecond, pThird, pClass, pTest, pTypes}
+use Rattle.meaning.specs.Statements.{Seen, outside, inE, ofE, step, Item, Statement, saying, says, itemOf, ends, formAt, Gathered, pFirst, pSecond, pThird, pClass, pTest, pTypes}
 use Rattle.meaning.specs.Sizes.{limits, nameCount, formCount, countOf, Counts, noCounts, counted, cIfs, cNone}
 use Rattle.meaning.specs.Keywords.{kClass, kCommon, kIf}
 use Rattle.meaning.proofs.Lists.{bool-cases, and-both, or-cases}
-use Rattle.meaning.proofs.Lengths.{if-all, and-false, oneIf, one-le, sum, keep-if, keep-le}
-use Rattle.meaning.proofs.Steps.{active, active-starts, starts-ends, ends-silent, Form, none, own, perms, types, roles}
-use Rattle.meaning.proofs.Steps.{form-keyword}
+use Rattle.meaning.proofs.Lengths.{if-all, oneIf, one-le, sum, keep-if, keep-le}
+use Rattle.meaning.proofs.Steps.{active, active-starts, starts-ends, ends-silent, says-what, ofE-in, Form, none, own, perms, types, roles, form-keyword}
 use Rattle.meaning.proofs.Passed.{Fine, Passed, done, begins, goes, tail-cases, form-of}
 
 abbrev pub limit : ℕ → ℕ
@@ -50,12 +48,8 @@ if-ends-none st =
       is m h e = rw (eqb-true (st .kw) m e) h
 
 says-uncounted : (st : Seen) (k : ℕ) → saying k ≡ false → says st k ≡ true → nameCount (st .kw) (st .pos) ≡ cNone
-unfolding says ofE
 says-uncounted st k y s =
-    let o : (ofE st k || saying k) ≡ true = and-both (active (st .kw) && not (idle st)) (ofE st k || saying k) s .1 in
-    let i : inE st ≡ true =
-    or-cases (ofE st k) (saying k) o (λ e. bool-cases (inE st) (λ z. z) (λ z. absurd (false≢true (rw z at e))))
-    (λ e. absurd (false≢true (sym y ∙ e))) in
+    let i : inE st ≡ true = or-cases (ofE st k) (saying k) (says-what st k s) (ofE-in st k) (λ e. absurd (false≢true (sym y ∙ e))) in
     uncounted (st .kw) (st .pos) (leb-true pTest (st .pos) (and-both (leb pTest (st .pos)) (leb (st .pos) pTypes) i .0))
 
 -- a word counts for j where it says something that does, ends a statement that does, or is `if`: never two of the three

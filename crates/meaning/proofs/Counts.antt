@@ -4,92 +4,76 @@
 -- a position that counts, or of statements of a form that does (Limits), or is bounded statement by statement (Own, Held, Kept).
 -- The numbers are those of `limits`; roles are one more, with `object_r`.
 -- Assumes nothing.
-use mathlib.Core.Path.{_≡_, refl, sym, ap, _∙_}
-use mathlib.Core.Bool.{Bool, true, false, _||_, false≢true}
-use mathlib.Core.List.{List, [], _∷_}
-use Prim.Native.Nat.{ℕ, suc, _+_, _≤_}
+use mathlib.Core.Path.{_≡_, refl, sym, _∙_}
+use mathlib.Core.Bool.{Bool, true, false, _||_, false≢true, and-false}
+use mathlib.Core.List.{List, []}
+use Prim.Native.Nat.{ℕ, _+_, _≤_}
 use native.Mathlib.Omega.{arith}
 use borrow.Author.Tests.{eqb-true, ne-eqb, leb-true, lt-leb}
 use lib.Dec.{eqb, leb}
 use lib.ListN.{length}
 use Rattle.meaning.specs.Plain.{keep, each}
 use Rattle.meaning.specs.Words.{wordsOf}
-use Rattle.meaning.specs.Statements.{Item, Statement, statementsOf, outside, Gathered, part, ofForm, pFirst, pThird, pClass}
-use Rattle.meaning.specs.Statements.{pTest}
-use Rattle.meaning.specs.Sizes.{fits, readText, nameCount, formCount, noCounts, expressionWords, ownPermissions, cTypes}
-use Rattle.meaning.specs.Sizes.{cAttributes, cAliases, cClasses, cCommons, cRoles, cUsers, cBools, cAvRows, cTypeRows}
-use Rattle.meaning.specs.Sizes.{cRoleRules, cIfs, cConstrains}
-use Rattle.meaning.specs.Names.{declared, dType, dAttribute, dRole, dUser, dClass, dCommon, dBool}
-use Rattle.meaning.specs.Permissions.{Name, classOf, classesIn, classPart}
+use Rattle.meaning.specs.Statements.{Statement, statementsOf, outside, Gathered, part, ofForm, pFirst, pThird, pClass, pTest}
+use Rattle.meaning.specs.Sizes.{fits, readText, nameCount, formCount, noCounts, expressionWords, ownPermissions, cTypes, cAttributes, cAliases, cClasses, cCommons, cRoles, cUsers, cBools, cAvRows, cTypeRows, cRoleRules, cIfs, cConstrains}
+use Rattle.meaning.specs.Names.{declaresAt, declared, dType, dAttribute, dRole, dUser, dClass, dCommon, dBool}
+use Rattle.meaning.specs.Permissions.{classOf, classesIn, classPart}
 use Rattle.meaning.specs.Sets.{Names, namesOf, nameOf, ofKind, aliasesBy, attributeOf}
 use Rattle.meaning.specs.Policy.{Policy}
-use Rattle.meaning.specs.Rules.{policyOf, Bound, typeEntries, typesIn, rolesIn, roleOf, userOf, switchOf, ruleOf, rulesOf}
-use Rattle.meaning.specs.Rules.{rowsOf, avStatements, typeRowsOf, classNumbers, aliasEntry, roleAllowOf, roleTransitionOf}
-use Rattle.meaning.specs.Rules.{ifOf, constrainOf, constraintWords, readTests, boolToken}
-use Rattle.meaning.specs.Keywords.{kType, kTypealias, kBool, kRoleTransition, kTypeTransition, kTypeMember, kAllow, kIf}
-use Rattle.meaning.specs.Keywords.{kUser, kConstrain, kRoleAllow, isAv, isTypeRule}
+use Rattle.meaning.specs.Rules.{policyOf, typesIn, userOf, switchOf, ruleOf, rulesOf, rowsOf, avStatements, typeRowsOf, classNumbers, aliasEntry, roleAllowOf, roleTransitionOf, ifOf, constrainOf, constraintWords, readTests, boolToken}
+use Rattle.meaning.specs.Keywords.{kClass, kCommon, kAttribute, kRole, kType, kTypealias, kBool, kRoleTransition, kTypeTransition, kTypeMember, kAllow, kIf, kUser, kConstrain, kRoleAllow, isAv, isTypeRule}
 use Rattle.meaning.proofs.Lists.{and-both, or-cases, length-each}
-use Rattle.meaning.proofs.Lengths.{and-false, oneIf, All, all-of, all-keep, all-each}
-use Rattle.meaning.proofs.Lengths.{keep-two, joined-each}
+use Rattle.meaning.proofs.Lengths.{oneIf, All, all-of, all-keep, all-each, keep-two, joined-each}
+use Rattle.meaning.proofs.Declared.{just, at-first}
+use Rattle.meaning.proofs.Listed.{types-counted, roles-counted}
 use Rattle.meaning.proofs.Passed.{Passed, text-passed}
 use Rattle.meaning.proofs.Counted.{limit, wholeCount}
 use Rattle.meaning.proofs.Own.{few-words, test-words, few-common, few-own, few-beside, short-names}
 use Rattle.meaning.proofs.Kept.{postfix-le, tests-le}
-use Rattle.meaning.proofs.Held.{few-perms, Fits, kind-fit, types-fit, roles-fit, aliases-fit, users-fit, bools-fit}
-use Rattle.meaning.proofs.Held.{classes-fit}
-use Rattle.meaning.proofs.Limits.{at-within, forms-within, names-within, single-within, kept-within, names-le, home}
+use Rattle.meaning.proofs.Held.{few-perms, Fits, kind-fit, types-fit, roles-fit, aliases-fit, users-fit, bools-fit, classes-fit}
+use Rattle.meaning.proofs.Limits.{at-within, forms-within, names-within, single-within, kept-within, names-le}
 use Rattle.meaning.proofs.Single.{single}
 
-abbrev pub policyIn : List Statement → Policy
-policyIn ss = policyOf (namesOf ss) ss
+-- the policy that statements make
+abbrev pub saidBy : List Statement → Policy
+saidBy ss = policyOf (namesOf ss) ss
 
 -- the sizes of 01, of the names and the policy of a text with the statements ss
 pub record Within (ss : List Statement) : Type 0 where
-  pub types : length (policyIn ss .types) ≤ limit cTypes
+  pub types : length (saidBy ss .types) ≤ limit cTypes
   pub attributes : length (namesOf ss .attributes) ≤ limit cAttributes
-  pub aliases : length (policyIn ss .aliases) ≤ limit cAliases
-  pub classes : length (policyIn ss .classes) ≤ limit cClasses
+  pub aliases : length (saidBy ss .aliases) ≤ limit cAliases
+  pub classes : length (saidBy ss .classes) ≤ limit cClasses
   pub commons : length (ofKind dCommon (declared ss)) ≤ limit cCommons
-  pub roles : length (policyIn ss .roles) ≤ limit cRoles + 1
-  pub users : length (policyIn ss .users) ≤ limit cUsers
-  pub bools : length (policyIn ss .bools) ≤ limit cBools
-  pub perms : All (λ c. length (c .perms) ≤ ownPermissions) (policyIn ss .classes)
-  pub ifs : length (policyIn ss .ifs) ≤ limit cIfs
-  pub rows : length (policyIn ss .rows) ≤ limit cAvRows
-  pub typeRows : length (policyIn ss .typeRows) ≤ limit cTypeRows
-  pub roleRules : length (policyIn ss .roleAllows) + length (policyIn ss .roleTransitions) ≤ limit cRoleRules
-  pub constrains : length (policyIn ss .constrains) ≤ limit cConstrains
+  pub roles : length (saidBy ss .roles) ≤ limit cRoles + 1
+  pub users : length (saidBy ss .users) ≤ limit cUsers
+  pub bools : length (saidBy ss .bools) ≤ limit cBools
+  pub perms : All (λ c. length (c .perms) ≤ ownPermissions) (saidBy ss .classes)
+  pub ifs : length (saidBy ss .ifs) ≤ limit cIfs
+  pub rows : length (saidBy ss .rows) ≤ limit cAvRows
+  pub typeRows : length (saidBy ss .typeRows) ≤ limit cTypeRows
+  pub roleRules : length (saidBy ss .roleAllows) + length (saidBy ss .roleTransitions) ≤ limit cRoleRules
+  pub constrains : length (saidBy ss .constrains) ≤ limit cConstrains
   -- the words of expressions, and what is kept of them
   pub ifWords : All (λ s. length (part pTest s) ≤ expressionWords) (ofForm kIf ss)
-  pub ifCodes : All (λ c. length c ≤ expressionWords) (policyIn ss .ifs)
+  pub ifCodes : All (λ c. length c ≤ expressionWords) (saidBy ss .ifs)
   pub constrainWords : All (λ s. length (constraintWords s) ≤ expressionWords) (ofForm kConstrain ss)
-  pub constrainCodes : All (λ c. length (c .test) ≤ expressionWords) (policyIn ss .constrains)
+  pub constrainCodes : All (λ c. length (c .test) ≤ expressionWords) (saidBy ss .constrains)
   -- the lists that numbers and sets are counted through
   pub typeNames : length (namesOf ss .types) ≤ limit cTypes
   pub roleNames : length (namesOf ss .roles) ≤ limit cRoles + 1
   pub userNames : length (namesOf ss .users) ≤ limit cUsers
   pub boolNames : length (namesOf ss .bools) ≤ limit cBools
   -- the bytes of names
-  pub typeBytes : All (λ t. Fits (t .name .text)) (policyIn ss .types)
+  pub typeBytes : All (λ t. Fits (t .name .text)) (saidBy ss .types)
   pub attributeBytes : All (λ a. Fits (a .name)) (namesOf ss .attributes)
-  pub aliasBytes : All (λ a. Fits (a .name .text)) (policyIn ss .aliases)
-  pub classBytes : All (λ c. Fits (c .name .text) × All (λ x. Fits (x .text)) (c .perms)) (policyIn ss .classes)
-  pub roleBytes : All (λ r. Fits (r .name .text)) (policyIn ss .roles)
-  pub userBytes : All (λ u. Fits (u .name .text)) (policyIn ss .users)
-  pub boolBytes : All (λ b. Fits (b .name .text)) (policyIn ss .bools)
+  pub aliasBytes : All (λ a. Fits (a .name .text)) (saidBy ss .aliases)
+  pub classBytes : All (λ c. Fits (c .name .text) × All (λ x. Fits (x .text)) (c .perms)) (saidBy ss .classes)
+  pub roleBytes : All (λ r. Fits (r .name .text)) (saidBy ss .roles)
+  pub userBytes : All (λ u. Fits (u .name .text)) (saidBy ss .users)
+  pub boolBytes : All (λ b. Fits (b .name .text)) (saidBy ss .bools)
 
--- ---- lists as long as others
-entries-long : (n : Names) (bs : List Bound) (is : List Item) (i : ℕ) (ns : List Name) → length (typeEntries n bs is i ns) ≡ length ns
-unfolding typeEntries
-entries-long n bs is i [] = refl
-entries-long n bs is i (x ∷ ns) = ap suc (entries-long n bs is (i + 1) ns)
-
-roles-long : (n : Names) (ss : List Statement) (ns : List Name) → length (rolesIn n ss ns) ≡ length ns
-unfolding rolesIn
-roles-long n ss [] = refl
-roles-long n ss (x ∷ ns) = ap suc (length-each (roleOf n ss) ns)
-
--- a rule has a row for each class word
+-- ---- lists as long as others: a rule has a row for each class word
 class-words : (K : ℕ → Bool) → K kConstrain ≡ false → (n : Names) (s : Statement) → K (s .form) ≡ true
     → length (classNumbers n s) ≡ length (part pClass s)
 unfolding classNumbers classPart
@@ -123,23 +107,26 @@ constrain-code n s = omega (arith, postfix-le [] (readTests n (constraintWords s
 
 -- ---- the whole
 counts-within : {g : Gathered} → Passed outside noCounts g → Within (g .rest)
-unfolding policyOf namesOf ofKind ofForm home single nameCount formCount wholeCount oneIf classesIn classOf typesIn attributeOf aliasesBy aliasEntry
+unfolding policyOf namesOf ofKind ofForm single declaresAt nameCount formCount wholeCount oneIf classesIn classOf typesIn attributeOf aliasesBy aliasEntry
     userOf switchOf rulesOf avStatements rowsOf ruleOf typeRowsOf
 counts-within {g} p =
     let ss = g .rest in
     let n = namesOf (g .rest) in
     let short = short-names p in
     let words = few-words p in
+    let types : length (n .types) ≤ limit cTypes = rw (length-each nameOf) (names-within p kType dType cTypes (at-first kType dType refl refl refl (λ f q. just _)) (omega arith) refl (omega arith)) in
+    let roles : length (n .roles) ≤ limit cRoles + 1 =
+    rw (length-each nameOf) (single-within p kRole dRole cRoles (at-first kRole dRole refl refl refl (λ f q. just _)) (omega arith) refl refl (omega arith)) in
     record {
-      types = rw (entries-long, length-each nameOf) (names-within p dType cTypes refl (omega arith) refl (omega arith));
+      types = rw (types-counted ss) types;
       attributes = rw (length-each (attributeOf _ _), length-each nameOf)
-          (names-within p dAttribute cAttributes refl (omega arith) refl (omega arith));
+          (names-within p kAttribute dAttribute cAttributes (at-first kAttribute dAttribute refl refl refl (λ f q. just _)) (omega arith) refl (omega arith));
       aliases = rw (length-each (aliasEntry _)) (at-within p cAliases (omega arith) (λ k. eqb k kType || eqb k kTypealias) pThird _
           (λ k e. or-cases (eqb k kType) (eqb k kTypealias) e (λ z. rw (eqb-true k kType z)) (λ z. rw (eqb-true k kTypealias z)))
           (λ s e. rw length-each (names-le pThird s)));
-      classes = rw (length-each (classOf _)) (single-within p dClass cClasses refl (omega arith) refl refl (omega arith));
-      commons = rw (length-each nameOf) (names-within p dCommon cCommons refl (omega arith) refl (omega arith));
-      roles = rw (roles-long, length-each nameOf) (single-within p dRole cRoles refl (omega arith) refl refl (omega arith));
+      classes = rw (length-each (classOf _)) (single-within p kClass dClass cClasses (at-first kClass dClass refl refl refl (λ f q. just _)) (omega arith) refl refl (omega arith));
+      commons = rw (length-each nameOf) (names-within p kCommon dCommon cCommons (at-first kCommon dCommon refl refl refl (λ f q. just _)) (omega arith) refl (omega arith));
+      roles = rw (roles-counted ss) roles;
       users = kept-within p cUsers (omega arith) (λ k. eqb k kUser) pFirst (userOf n) (λ k e. rw (eqb-true k kUser e))
           (λ s e. rw length-each (names-le pFirst s));
       bools = kept-within p cBools (omega arith) (λ k. eqb k kBool) pFirst switchOf (λ k e. rw (eqb-true k kBool e))
@@ -158,10 +145,10 @@ counts-within {g} p =
       ifCodes = all-each (ifOf n) (all-keep _ (λ s e h. omega (arith, if-code n s)) words);
       constrainWords = all-keep _ (λ s e h. h) words;
       constrainCodes = all-each (constrainOf n) (all-keep _ (λ s e h. omega (arith, constrain-code n s)) words);
-      typeNames = rw (length-each nameOf) (names-within p dType cTypes refl (omega arith) refl (omega arith));
-      roleNames = rw (length-each nameOf) (single-within p dRole cRoles refl (omega arith) refl refl (omega arith));
-      userNames = rw (length-each nameOf) (names-within p dUser cUsers refl (omega arith) refl (omega arith));
-      boolNames = rw (length-each nameOf) (names-within p dBool cBools refl (omega arith) refl (omega arith));
+      typeNames = types;
+      roleNames = roles;
+      userNames = rw (length-each nameOf) (names-within p kUser dUser cUsers (at-first kUser dUser refl refl refl (λ f q. just _)) (omega arith) refl (omega arith));
+      boolNames = rw (length-each nameOf) (names-within p kBool dBool cBools (at-first kBool dBool refl refl refl (λ f q. just _)) (omega arith) refl (omega arith));
       typeBytes = types-fit ss short n _ _ 0 _ (kind-fit ss short dType);
       attributeBytes = all-each (attributeOf ss _) (kind-fit ss short dAttribute);
       aliasBytes = all-each (aliasEntry n) (aliases-fit ss short);

@@ -1,5 +1,5 @@
 -- Where declarations come from: an alias that is declared is one of the aliases (`alias-among`), the type of a `type` is declared
--- (`type-found`), and the users and booleans of a policy are just those that are declared, in that order (`declared-at-first`).
+-- (`type-found`), and the names declared as one of the other kinds are just those at the first position of one form (`at-first`).
 -- What a name declares is looked up in a table by the statement's form and the position (`entries`), so of what is declared as d the
 -- entry of d tells form and position.
 -- Assumes nothing.
@@ -13,20 +13,20 @@ use Rattle.meaning.specs.Plain.{if_then_else_, within, any, keep, each, 
 use Rattle.meaning.specs.Keywords.{kName, kClass, kCommon, kAttribute, kType, kTypealias, kBool, kRole, kUser, kPerms}
 use Rattle.meaning.specs.Statements.{Item, Statement, part, namesAt, ofForm, pFirst, pSecond, pThird, pFourth}
 use Rattle.meaning.specs.Names.{Decl, declaresAt, declares, declOf, objectR, declaredBy, declared, firstText, dNone, dType, dAttribute, dAlias, dRole, dUser, dClass, dCommon, dBool, dPerm}
-use Rattle.meaning.specs.Permissions.{itemName}
-use Rattle.meaning.specs.Sets.{Alias, nameOf, ofKind, aliasesBy}
+use Rattle.meaning.specs.Permissions.{Name, itemName}
+use Rattle.meaning.specs.Sets.{Alias, nameOf, aliasesBy}
 use Rattle.meaning.proofs.Lists.{bool-cases, and-both, both-and, same-test, Among, here, there, keep-among, among-keep, each-among, among-each, joined-among, among-joined}
 use Rattle.meaning.proofs.Served.{Found}
 
 -- ---- what a name declares, as a table
-record Entry : Type 0 where
-  test : Bool
-  kind : ℕ
+pub record Entry : Type 0 where
+  pub test : Bool
+  pub kind : ℕ
 
-abbrev entry : Bool → ℕ → Entry
+abbrev pub entry : Bool → ℕ → Entry
 entry b d = record { test = b; kind = d }
 
-abbrev entries : ℕ → ℕ → List Entry
+abbrev pub entries : ℕ → ℕ → List Entry
 entries k p =
     entry (eqb k kType && eqb p pFirst) dType ∷ entry (eqb k kAttribute && eqb p pFirst) dAttribute
     ∷ entry ((eqb k kType || eqb k kTypealias) && eqb p pThird) dAlias ∷ entry (eqb k kRole && eqb p pFirst) dRole
@@ -38,7 +38,7 @@ abbrev pick : List Entry → ℕ
 pick [] = dNone
 pick (e ∷ es) = if e .test then e .kind else pick es
 
-abbrev hasEntry : ℕ → List Entry → Bool
+abbrev pub hasEntry : ℕ → List Entry → Bool
 hasEntry d es = any (λ e. eqb (e .kind) d && e .test) es
 
 picked : (es : List Entry) (d : ℕ) → eqb dNone d ≡ false → eqb (pick es) d ≡ true → hasEntry d es ≡ true
@@ -51,7 +51,7 @@ declares-what : (k p d : ℕ) → eqb dNone d ≡ false → eqb (declaresAt k p)
 unfolding declaresAt
 declares-what k p d n e = picked (entries k p) d n e
 
-just : (c : Bool) → (if c then true else false) ≡ true → c ≡ true
+pub just : (c : Bool) → (if c then true else false) ≡ true → c ≡ true
 just true e = refl
 just false e = absurd (false≢true e)
 
@@ -93,7 +93,7 @@ type-found ss {st = st} {i = i} mst mi f p n =
       reads = refl;
     }
 
--- ---- users and booleans
+-- ---- names at the first position
 keep-append : {A : Type 0} (p : A → Bool) (l r : List A) → keep p (l ++ r) ≡ keep p l ++ keep p r
 keep-append p [] r = refl
 keep-append p (x ∷ l) r = bool-cases (p x) (λ e. rw (e, keep-append p l r)) (λ e. rw (e, keep-append p l r))
@@ -110,9 +110,17 @@ keep-none : {A : Type 0} (p : A → Bool) → ((x : A) → p x ≡ false) → (l
 keep-none p h [] = refl
 keep-none p h (x ∷ l) = rw (h x) (keep-none p h l)
 
+-- the names at the first position of the statements of the form k
+abbrev pub firstNames : ℕ → List Statement → List Name
+firstNames k ss = joined (λ st. each itemName (namesAt pFirst st)) (ofForm k ss)
+
+-- these are the names that are declared as d, `object_r` apart
+abbrev pub AtFirst : ℕ → ℕ → Type 0
+AtFirst k d = (ss : List Statement) → each nameOf (keep (λ e. eqb (e .kind) d) (joined declaredBy ss)) ≡ firstNames k ss
+
 -- of what a statement of the form k declares at its first position, as d
 module _ (k d : ℕ) (just-there : (f p : ℕ) → eqb (declaresAt f p) d ≡ (eqb f k && eqb p pFirst)) (some : eqb dNone d ≡ false)
-    (counted : within dType dBool d ≡ true) (no-role : eqb dRole d ≡ false) where
+    (counted : within dType dBool d ≡ true) where
   items-as : (st : Statement) (l : List Item)
       → each nameOf (keep (λ e. eqb (e .kind) d) (each (declOf st) (keep (λ i. within dType dBool (declares st i)) l)))
       ≡ each itemName (keep (λ i. eqb (declares st i) d) l)
@@ -138,30 +146,16 @@ module _ (k d : ℕ) (just-there : (f p : ℕ) → eqb (declaresAt f p) d ≡ (e
       (λ e. rw (e, keep-same _ (λ i. eqb (i .pos) pFirst && eqb (i .kind) kName) (λ i. declares-is st i ∙ rw e) (st .items)))
       (λ e. rw (e, keep-none (λ i. eqb (declares st i) d) (λ i. declares-is st i ∙ rw e) (st .items)))
 
-  of-statements : (ss : List Statement) → each nameOf (keep (λ e. eqb (e .kind) d) (joined declaredBy ss))
-      ≡ joined (λ st. each itemName (namesAt pFirst st)) (ofForm k ss)
+  of-statements : AtFirst k d
   unfolding ofForm
   of-statements [] = refl
   of-statements (st ∷ ss) =
       rw (keep-append (λ e. eqb (e .kind) d) (declaredBy st) (joined declaredBy ss), each-append, one-statement st, of-statements ss)
       (bool-cases (eqb (st .form) k) (λ e. rw e) (λ e. rw e))
 
-  -- The names of the kind d are those at the first position of the statements of the form k.
-  pub declared-at-first : (ss : List Statement) → ofKind d (declared ss) ≡ joined (λ st. each itemName (namesAt pFirst st)) (ofForm k ss)
-  unfolding ofKind declared objectR
-  declared-at-first ss = rw no-role (of-statements ss)
-
-declares-just : (k d : ℕ) → eqb (declaresAt k pFirst) d ≡ true → ((f p : ℕ) → eqb (declaresAt f p) d ≡ true → (eqb f k && eqb p pFirst) ≡ true)
-    → (f p : ℕ) → eqb (declaresAt f p) d ≡ (eqb f k && eqb p pFirst)
-declares-just k d h g f p =
-    same-test _ _ (g f p) (λ e. let r = and-both (eqb f k) (eqb p pFirst) e in rw (eqb-true f k (r .0), eqb-true p pFirst (r .1)) h)
-
-pub users-at-first : (ss : List Statement) → ofKind dUser (declared ss) ≡ joined (λ st. each itemName (namesAt pFirst st)) (ofForm kUser ss)
-unfolding declaresAt
-users-at-first =
-    declared-at-first kUser dUser (declares-just kUser dUser refl (λ f p e. just _ (declares-what f p dUser refl e))) refl refl refl
-
-pub bools-at-first : (ss : List Statement) → ofKind dBool (declared ss) ≡ joined (λ st. each itemName (namesAt pFirst st)) (ofForm kBool ss)
-unfolding declaresAt
-bools-at-first =
-    declared-at-first kBool dBool (declares-just kBool dBool refl (λ f p e. just _ (declares-what f p dBool refl e))) refl refl refl
+-- Names are declared as d at the first position of the form k, where the table has that form and position, and no other, for d.
+pub at-first : (k d : ℕ) → eqb dNone d ≡ false → within dType dBool d ≡ true → eqb (declaresAt k pFirst) d ≡ true
+    → ((f p : ℕ) → hasEntry d (entries f p) ≡ true → (eqb f k && eqb p pFirst) ≡ true) → AtFirst k d
+at-first k d n w h g =
+    of-statements k d (λ f p. same-test _ _ (λ e. g f p (declares-what f p d n e))
+    (λ e. let r = and-both (eqb f k) (eqb p pFirst) e in rw (eqb-true f k (r .0), eqb-true p pFirst (r .1)) h)) n w

@@ -13,11 +13,7 @@ use mathlib.Core.Path.{_≡_, refl, sym, _∙_}
 use mathlib.Core.Bool.{Bool}
 use mathlib.Core.List.{List, [], _∷_, _++_, append-assoc, append-nil}
 use borrow.Author.Tests.{le-leb, lt-leb}
-use Rattle.meaning.specs.Expressions.{Sign, same, differ, both, odd, either, binds, bindsNot, loosest}
-use Rattle.meaning.specs.Expressions.{Token, leaf, sign, negation, lpar, rpar, Tree, one, neg, two, worth}
-use Rattle.meaning.specs.Expressions.{Reads, operand, inside, negated, grouped}
-use Rattle.meaning.specs.Expressions.{Code, push, does, negates, Waiting, wait, waitNot, paren, popped, postfix}
-use Rattle.meaning.specs.Expressions.{joinTop, negateTop, topOf, valueFrom, value}
+use Rattle.meaning.specs.Expressions.{Sign, same, differ, both, odd, either, binds, bindsNot, loosest, Token, leaf, sign, negation, lpar, rpar, Tree, one, neg, two, worth, Reads, operand, inside, negated, grouped, Code, push, does, negates, Waiting, wait, waitNot, paren, popped, postfix, joinTop, negateTop, topOf, valueFrom, value}
 
 -- each sign behind what it joins
 unfoldable pub post : {L : Type 0} → Tree L → List (Code L)

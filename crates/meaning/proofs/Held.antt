@@ -13,15 +13,13 @@ use lib.ListN.{length, length-append}
 use Rattle.meaning.specs.Plain.{within, any, joined}
 use Rattle.meaning.specs.Statements.{Item, Statement, namesAt, ofForm, pFirst, pSecond, pThird, pFourth}
 use Rattle.meaning.specs.Sizes.{longestName, commonPermissions, ownPermissions, ownBesideCommon}
-use Rattle.meaning.specs.Names.{declares, declOf, objectR, declaredBy, declared, firstOf, isPermsOf, isCommon, commonPerms}
-use Rattle.meaning.specs.Names.{inherited, dType, dBool}
+use Rattle.meaning.specs.Names.{declares, declOf, objectR, declaredBy, declared, firstOf, isPermsOf, isCommon, commonPerms, inherited, dType, dBool}
 use Rattle.meaning.specs.Permissions.{Name, statedPerms, permsOf, itemName, classOf, classesIn}
 use Rattle.meaning.specs.Sets.{Names, nameOf, ofKind, aliasesBy}
 use Rattle.meaning.specs.Rules.{Bound, typeEntries, rolesIn, roleOf, objectRole, userOf, switchOf}
 use Rattle.meaning.specs.Keywords.{bytes, kName, kCommon, kType, kTypealias, kPerms}
 use Rattle.meaning.proofs.Lists.{bool-cases, and-both}
-use Rattle.meaning.proofs.Lengths.{if-all, All, empty, more, all-map, all-both, all-keep, all-each}
-use Rattle.meaning.proofs.Lengths.{all-append, all-joined}
+use Rattle.meaning.proofs.Lengths.{if-all, All, empty, more, all-map, all-both, all-keep, all-each, all-append, all-joined}
 use Rattle.meaning.proofs.Own.{Few, Short}
 
 -- ---- the first of some lists

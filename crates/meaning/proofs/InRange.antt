@@ -1,11 +1,11 @@
 -- Every number that the policy of a text with no earlier refusal holds is in its range, and every set has as many entries as there
--- are names that it is of (`in-range`; of an accepted load `accepted-in-range`). The rows of the rules are in Ruled; the rest is here, kind by kind, in the order of the record.
+-- are names that it is of (`in-range`; of an accepted load `accepted-in-range`). The rows of the rules are in Ruled; the rest is here,
+-- kind by kind, in the order of the record.
 -- Assumes nothing.
 use Prim.Native.Nat.{ℕ, _+_, _<_}
-use native.Mathlib.Omega.{arith}
 use mathlib.Core.Path.{_≡_, refl, sym, ap, _∙_}
 use mathlib.Core.Logic.{_⊎_, inl, inr}
-use mathlib.Core.Bool.{Bool, true, _||_}
+use mathlib.Core.Bool.{Bool, true, _||_, false≢true}
 use mathlib.Core.List.{List, [], _∷_, _++_}
 use borrow.Author.Tests.{eqb-true}
 use lib.Dec.{eqb}
@@ -21,8 +21,7 @@ use Rattle.meaning.specs.Rules.{numberOf, aliasEntry, permsFor, permSets
 use Rattle.meaning.specs.Contexts.{nameless, classAt}
 use Rattle.meaning.specs.Refusals.{accepted}
 use Rattle.meaning.specs.Load.{load}
-use Rattle.meaning.proofs.Lists.{bool-cases, or-cases, Among, here, there, among-left, among-right, append-among, keep-among, among-keep, each-among, joined-among, getD-each, length-each}
-use Rattle.meaning.proofs.Texts.{either-right}
+use Rattle.meaning.proofs.Lists.{bool-cases, either-right, or-cases, Among, here, there, among-left, among-right, append-among, keep-among, among-keep, each-among, joined-among, getD-each, length-each}
 use Rattle.meaning.proofs.Accepted.{NoEarlier, statementsIn, namesIn, policyIn, stands}
 use Rattle.meaning.proofs.Shapes.{shape}
 use Rattle.meaning.proofs.Served.{found, named-below}
@@ -36,7 +35,7 @@ use Rattle.meaning.proofs.Ruled.{perms-sized, rows-in, type-rows-in}
 -- ---- where parents, roles and permissions come from
 parent-from : (bs : List Bound) (i : ℕ) {x : ℕ} → parentIn bs i ≡ parent x → (b : Bound) × Among b bs × (b .parent ≡ x)
 unfolding parentIn
-parent-from [] i e = let z : _≡_ {A = ℕ} 0 1 = cc in absurd (omega arith)
+parent-from [] i e = absurd (false≢true (cc))
 parent-from (b ∷ bs) i {x = x} e =
     bool-cases (eqb (b .child) i) (λ q. let z : parent (b .parent) ≡ parent x = rw q at e in (b, here refl, cc))
     (λ q. let r = parent-from bs i (rw q at e) in (r .0, there (r .1), r .2))

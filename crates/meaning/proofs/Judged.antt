@@ -2,15 +2,14 @@
 -- and `valid`, which computed contexts are judged by, say one thing. By cases on the tests.
 -- Assumes nothing.
 use mathlib.Core.Path.{_≡_, refl}
-use mathlib.Core.Bool.{Bool, true, false, not, _&&_, _||_}
-use Prim.Native.Nat.{ℕ, _<_}
-use native.Mathlib.Omega.{arith}
+use mathlib.Core.Bool.{Bool, true, false, not, _&&_, _||_, false≢true}
+use Prim.Native.Nat.{_<_}
 use borrow.Author.Tests.{ltb-true, lt-ltb}
 use lib.Dec.{ltb}
 use lib.ListN.{length}
 use Rattle.meaning.specs.Plain.{if_then_else_}
 use Rattle.meaning.specs.Policy.{Policy}
-use Rattle.meaning.specs.Contexts.{Context, Wrong, noUser, noRole, noType, roleWithoutType, userWithoutRole, Reading, wrong, reads, isObject, roleHas, userHas, valid, judged}
+use Rattle.meaning.specs.Contexts.{Context, noUser, noRole, noType, roleWithoutType, userWithoutRole, Reading, wrong, reads, isObject, roleHas, userHas, valid, judged}
 
 -- the user, the role and the type are of the policy
 pub record Exists (p : Policy) (c : Context) : Type 0 where
@@ -29,26 +28,23 @@ tried u r t o h k c =
     else if not k then wrong userWithoutRole
     else reads c
 
-never : {P : Type 0} (w : Wrong) (d : Context) → wrong w ≡ reads d → P
-never w d e = let z : _≡_ {A = ℕ} 0 1 = cc in absurd (omega arith)
-
 passed : (u r t o h k : Bool) (c d : Context) → tried u r t o h k c ≡ reads d
     → (u ≡ true) × (r ≡ true) × (t ≡ true) × ((o || (h && k)) ≡ true) × (c ≡ d)
 unfolding tried
-passed false r t o h k c d e = never _ d e
-passed true false t o h k c d e = never _ d e
-passed true true false o h k c d e = never _ d e
+passed false r t o h k c d e = absurd (false≢true (cc))
+passed true false t o h k c d e = absurd (false≢true (cc))
+passed true true false o h k c d e = absurd (false≢true (cc))
 passed true true true true h k c d e = (refl, refl, refl, refl, cc)
-passed true true true false false k c d e = never _ d e
-passed true true true false true false c d e = never _ d e
+passed true true true false false k c d e = absurd (false≢true (cc))
+passed true true true false true false c d e = absurd (false≢true (cc))
 passed true true true false true true c d e = (refl, refl, refl, refl, cc)
 
 passes : (u r t o h k : Bool) (c : Context) → u ≡ true → r ≡ true → t ≡ true → (o || (h && k)) ≡ true → tried u r t o h k c ≡ reads c
 unfolding tried
 passes u r t true h k c a b d e = rw (a, b, d)
 passes u r t false true true c a b d e = rw (a, b, d)
-passes u r t false true false c a b d e = let z : _≡_ {A = ℕ} 0 1 = cc in absurd (omega arith)
-passes u r t false false k c a b d e = let z : _≡_ {A = ℕ} 0 1 = cc in absurd (omega arith)
+passes u r t false true false c a b d e = absurd (false≢true (cc))
+passes u r t false false k c a b d e = absurd (false≢true (cc))
 
 -- A context that is read exists and is valid, and nothing else is read.
 pub read-only : (p : Policy) (c d : Context) → judged p c ≡ reads d → Exists p c × (valid p c ≡ true) × (c ≡ d)

@@ -7,8 +7,7 @@ use lib.Dec.{eqb, leb}
 use lib.ListN.{length, length-append}
 use Rattle.meaning.specs.Statements.{Item, pTest}
 use Rattle.meaning.specs.Sets.{Names}
-use Rattle.meaning.specs.Expressions.{Token, leaf, sign, negation, lpar, rpar, Waiting, wait, waitNot, paren, below, binds}
-use Rattle.meaning.specs.Expressions.{bindsNot, loosest, popped, postfix}
+use Rattle.meaning.specs.Expressions.{Token, leaf, sign, negation, lpar, rpar, Waiting, wait, waitNot, paren, below, binds, bindsNot, loosest, popped, postfix}
 use Rattle.meaning.specs.Rules.{readTests, behindTest}
 use Rattle.meaning.proofs.Lists.{bool-cases}
 

@@ -10,7 +10,8 @@ use mathlib.Core.List.{List, [], _∷_, _++_}
 use borrow.Author.Tests.{eqb-true, eq-eqb}
 use lib.Dec.{eqb}
 use Rattle.meaning.specs.Grammar.{G, none, eps, tok, seq, alt, star, nt, _·_, In, in-eps, in-tok, in-seq, in-left, in-right, in-stop, in-more, in-rule, nullable, or, leftBy, leftIn, left, rule, rules}
-use Rattle.meaning.proofs.Texts.{both, both-of, either-right, each-rule, no-none, cons-nil, after-in, after-out, or-out, or-left, or-right, empty-in, empty-out}
+use Rattle.meaning.proofs.Lists.{and-both, both-and, either-right}
+use Rattle.meaning.proofs.Texts.{each-rule, no-none, cons-nil, after-in, after-out, or-out, or-left, or-right, empty-in, empty-out}
 
 -- ---- a sequence and a word, by the test that `leftBy` makes
 abbrev pub seqBy : Bool → G → G → G
@@ -92,8 +93,8 @@ unfolding headBy
 head-all q h none = refl
 head-all q h eps = refl
 head-all q h (tok k) = refl
-head-all q h (seq a b) = both-of (headBy q a) _ (head-all q h a) (either-right (not (nullable a)) (headBy q b) (head-all q h b))
-head-all q h (alt a b) = both-of (headBy q a) (headBy q b) (head-all q h a) (head-all q h b)
+head-all q h (seq a b) = both-and (headBy q a) _ (head-all q h a) (either-right (not (nullable a)) (headBy q b) (head-all q h b))
+head-all q h (alt a b) = both-and (headBy q a) (headBy q b) (head-all q h a) (head-all q h b)
 head-all q h (star a) = head-all q h a
 head-all q h (nt i) = h i
 
@@ -122,16 +123,16 @@ module _ (r : ℕ → ℕ → G) (q : ℕ → Bool) (hr : (i k : ℕ) (ks : List
   by-complete (tok j) k ks d (in-tok e) = tok-by-in (eqb j k) ks (eq-eqb j k (cc)) (cc)
   by-complete (seq a b) k ks d (in-seq [] v e p s) =
       let n : nullable a ≡ true = empty-out p refl in
-      let m = must (nullable a) (headBy q b) n (both (headBy q a) (not (nullable a) || headBy q b) d .1) in
+      let m = must (nullable a) (headBy q b) n (and-both (headBy q a) (not (nullable a) || headBy q b) d .1) in
       seq-by-right (nullable a) (leftBy r a k · b) (leftBy r b k) ks n (by-complete b k ks m (rw e s))
   by-complete (seq a b) k ks d (in-seq (x ∷ u) v e p s) =
       let h : k ≡ x = cc in
-      let t = by-complete a k u (both (headBy q a) (not (nullable a) || headBy q b) d .0) (rw h p) in
+      let t = by-complete a k u (and-both (headBy q a) (not (nullable a) || headBy q b) d .0) (rw h p) in
       seq-by-left (nullable a) (leftBy r a k · b) (leftBy r b k) ks (after-in (leftBy r a k) b ks u v (cc) t s)
   by-complete (alt a b) k ks d (in-left p) =
-      or-left (leftBy r a k) (leftBy r b k) ks (by-complete a k ks (both (headBy q a) (headBy q b) d .0) p)
+      or-left (leftBy r a k) (leftBy r b k) ks (by-complete a k ks (and-both (headBy q a) (headBy q b) d .0) p)
   by-complete (alt a b) k ks d (in-right p) =
-      or-right (leftBy r a k) (leftBy r b k) ks (by-complete b k ks (both (headBy q a) (headBy q b) d .1) p)
+      or-right (leftBy r a k) (leftBy r b k) ks (by-complete b k ks (and-both (headBy q a) (headBy q b) d .1) p)
   by-complete (star a) k ks d h =
       let s = begun h k ks refl in
       after-in (leftBy r a k) (star a) ks (s .0) (s .1) (s .2) (by-complete a k (s .0) d (s .3)) (s .4)

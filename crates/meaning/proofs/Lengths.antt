@@ -4,28 +4,16 @@
 --   All P l       P holds of every element of l
 -- Each is by induction on the list; a step on `if` is taken by cases on the test's value.
 -- Assumes nothing.
-use mathlib.Core.Path.{_≡_, refl, sym, ap}
-use mathlib.Core.Bool.{Bool, true, false, _&&_, _||_, false≢true}
+use mathlib.Core.Path.{_≡_, refl, ap}
+use mathlib.Core.Bool.{Bool, true, false, _&&_}
 use mathlib.Core.List.{List, [], _∷_, _++_}
-use Prim.Native.Nat.{ℕ, suc, _+_, _≤_}
+use Prim.Native.Nat.{ℕ, _+_, _≤_}
 use native.Mathlib.Omega.{arith}
 use lib.ListN.{length, length-append}
 use Rattle.meaning.specs.Plain.{if_then_else_, keep, each, joined}
 use Rattle.meaning.proofs.Lists.{bool-cases}
 
 -- ---- truth values
-pub or-neither : (a b : Bool) → (a || b) ≡ false → (a ≡ false) × (b ≡ false)
-or-neither true b e = absurd (false≢true (sym e))
-or-neither false b e = (refl, e)
-
-pub and-false : (a : Bool) → (a && false) ≡ false
-and-false true = refl
-and-false false = refl
-
-pub or-true : (a : Bool) → (a || true) ≡ true
-or-true true = refl
-or-true false = refl
-
 -- what holds of both holds of either, and the test may be used
 pub if-all : {A : Type 0} (P : A → Type 0) (b : Bool) {x y : A} → (b ≡ true → P x) → (b ≡ false → P y) → P (if b then x else y)
 if-all P true p q = p refl
@@ -105,33 +93,6 @@ pub joined-sum : {A B : Type 0} (g : A → List B) (f : A → ℕ) {l : List A} 
 unfolding sum
 joined-sum g f empty = omega arith
 joined-sum g f (more {x = x} {l = l} h r) = let i = joined-sum g f r in omega (arith, length-append (g x) (joined g l))
-
-pub keep-none : {A : Type 0} (p : A → Bool) → ((x : A) → p x ≡ true → ⊥) → (l : List A) → length (keep p l) ≡ 0
-keep-none p f [] = refl
-keep-none p f (x ∷ l) = bool-cases (p x) (λ e. absurd (f x e)) (λ e. rw e (keep-none p f l))
-
-pub keep-each : {A B : Type 0} (p : B → Bool) (f : A → B) (l : List A) → length (keep p (each f l)) ≡ length (keep (λ x. p (f x)) l)
-keep-each p f [] = refl
-keep-each p f (x ∷ l) = bool-cases (p (f x)) (λ e. rw e (ap suc (keep-each p f l))) (λ e. rw e (keep-each p f l))
-
-pub keep-keep : {A : Type 0} (p q : A → Bool) (l : List A) → length (keep p (keep q l)) ≤ length (keep p l)
-keep-keep p q [] = omega arith
-keep-keep p q (x ∷ l) =
-    let r = keep-keep p q l in
-    let a = keep-if p true x l in
-    bool-cases (q x) (λ e. rw e (omega (arith, keep-if p true x (keep q l)))) (λ e. rw e (omega arith))
-
-keep-append : {A : Type 0} (p : A → Bool) (s t : List A) → length (keep p (s ++ t)) ≡ length (keep p s) + length (keep p t)
-keep-append p [] t = omega arith
-keep-append p (x ∷ s) t = let r = keep-append p s t in omega (arith, keep-if p true x s, keep-if p true x (s ++ t))
-
-pub keep-joined : {A B C : Type 0} (p : B → Bool) (f : A → List B) (g : A → List C) → ((x : A) → length (keep p (f x)) ≤ length (g x))
-    → (l : List A) → length (keep p (joined f l)) ≤ length (joined g l)
-keep-joined p f g h [] = omega arith
-keep-joined p f g h (x ∷ l) =
-    let r = keep-joined p f g h l in
-    let a = h x in
-    omega (arith, keep-append p (f x) (joined f l), length-append (g x) (joined g l))
 
 pub joined-keep : {A B : Type 0} (f : A → List B) (p : A → Bool) (l : List A) → joined f (keep p l) ≡ joined (λ x. if p x then f x else []) l
 joined-keep f p [] = refl

@@ -3,17 +3,25 @@
 pub mod Opened
 pub mod Spelling
 pub mod Cases
+-- truth values and lists: elements, places in a list, lengths, order
+pub mod Lists
+pub mod Lengths
+pub mod Sorted
 -- refusal 3: texts of a grammar, one word, many words, the reading of a text
 pub mod Texts
 pub mod Left
 pub mod Viable
 pub mod Reading
--- expressions are kept as they group
+-- expressions are kept as they group, no longer than their words, with their operands
 pub mod Grouping
--- lists, and what a load rests on
-pub mod Lists
-pub mod Sorted
+pub mod Kept
+pub mod Pushed
+-- what a load rests on
 pub mod Accepted
+-- names: those used are declared, where declarations come from, the names of a policy
+pub mod Served
+pub mod Declared
+pub mod Listed
 -- refusal 8: what a text without it rests on, and its parents, which run in no cycle
 pub mod Agreed
 pub mod Pigeons
@@ -31,14 +39,12 @@ pub mod Asked
 pub mod Typed
 pub mod Never
 -- sizes: what is counted bounds what a text says
-pub mod Lengths
 pub mod Steps
 pub mod Passed
 pub mod Counted
 pub mod Single
 pub mod Limits
 pub mod Own
-pub mod Kept
 pub mod Held
 pub mod Counts
 -- the shape of the statements of a text of the grammar
@@ -48,11 +54,7 @@ pub mod Forms
 pub mod Shapes
 pub mod Branches
 -- the numbers of a policy are in their ranges
-pub mod Served
-pub mod Declared
 pub mod Aliased
-pub mod Pushed
-pub mod Listed
 pub mod Comparisons
 pub mod Ranges
 pub mod Ruled

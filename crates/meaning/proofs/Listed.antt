@@ -1,6 +1,6 @@
 -- The types, roles, users and booleans of a policy are those that the text names, in that order: by their names (`types-named` and so
--- on), so also by their counts (`types-counted` and so on). And every set
--- has as many entries as there are names that it is of (`set-sized`).
+-- on), so also by their counts (`types-counted` and so on). And every set has as many entries as there are names that it is of
+-- (`set-sized`). By induction on the lists, as the definitions go through them.
 -- Assumes nothing.
 use Prim.Native.Nat.{ℕ, _+_}
 use mathlib.Core.Path.{_≡_, refl, sym, ap, _∙_}
@@ -10,13 +10,13 @@ use lib.ListN.{length}
 use Rattle.meaning.specs.Plain.{each, joined}
 use Rattle.meaning.specs.Keywords.{kBool, kUser}
 use Rattle.meaning.specs.Statements.{Item, Statement, namesAt, ofForm, pFirst}
-use Rattle.meaning.specs.Names.{declared, objectR}
+use Rattle.meaning.specs.Names.{declaresAt, declared, objectR, dUser, dBool}
 use Rattle.meaning.specs.Permissions.{Name, itemName}
 use Rattle.meaning.specs.Sets.{Names, namesOf, nameOf, ofKind}
 use Rattle.meaning.specs.Policy.{Policy}
 use Rattle.meaning.specs.Rules.{setOf, typesOf, rolesOf, Bound, typeEntries, typesIn, roleOf, objectRole, rolesIn, userOf, switchOf, policyOf}
 use Rattle.meaning.proofs.Lists.{length-each}
-use Rattle.meaning.proofs.Declared.{each-append, users-at-first, bools-at-first}
+use Rattle.meaning.proofs.Declared.{each-append, just, at-first}
 
 -- ---- laws
 each-each : {A B C : Type 0} (g : B → C) (f : A → B) (l : List A) → each g (each f l) ≡ each (λ x. g (f x)) l
@@ -61,12 +61,12 @@ module _ (ss : List Statement) where
   roles-named = ap (nameOf objectR ∷_) (roles-from n ss _)
 
   pub users-named : each (λ u. u .name) (p .users) ≡ n .users
-  unfolding policyOf userOf namesOf
-  users-named = names-joined (λ u. u .name) (userOf n) (λ st. each-each _ _ (namesAt pFirst st)) (ofForm kUser ss) ∙ sym (users-at-first ss)
+  unfolding policyOf userOf namesOf ofKind declared objectR declaresAt
+  users-named = names-joined (λ u. u .name) (userOf n) (λ st. each-each _ _ (namesAt pFirst st)) (ofForm kUser ss) ∙ sym (at-first kUser dUser refl refl refl (λ f q. just _) ss)
 
   pub bools-named : each (λ b. b .name) (p .bools) ≡ n .bools
-  unfolding policyOf switchOf namesOf
-  bools-named = names-joined (λ b. b .name) switchOf (λ st. each-each _ _ (namesAt pFirst st)) (ofForm kBool ss) ∙ sym (bools-at-first ss)
+  unfolding policyOf switchOf namesOf ofKind declared objectR declaresAt
+  bools-named = names-joined (λ b. b .name) switchOf (λ st. each-each _ _ (namesAt pFirst st)) (ofForm kBool ss) ∙ sym (at-first kBool dBool refl refl refl (λ f q. just _) ss)
 
   -- ---- the counts
   pub types-counted : length (p .types) ≡ length (n .types)

@@ -2,7 +2,8 @@
 --   Among x l      x is an element of l; each word on lists has its law both ways (among-.. into the list, ..-among out of it)
 --   at-among, among-at    an element is what stands at some number below the length
 --   index-found, index-reads    what stands at the number that `indexFrom` finds
--- Each is by induction on the list; a step on `if` is taken by a helper over the test's value.
+--   first-nowhere    of places: where `firstAt` finds none, no element has one
+-- Each is by induction on the list; a step on `if` is taken by cases on the test's value.
 -- Assumes nothing.
 use mathlib.Core.Path.{_≡_, refl, sym, ap, _∙_, subst}
 use mathlib.Core.Bool.{Bool, true, false, _&&_, _||_, false≢true}
@@ -13,7 +14,7 @@ use native.Mathlib.Omega.{arith}
 use borrow.Author.Tests.{eqb-true, eqb-false, eq-eqb}
 use lib.Dec.{eqb}
 use lib.ListN.{length, getD}
-use Rattle.meaning.specs.Plain.{if_then_else_, any, keep, each, joined, indexFrom, numbers, upTo, sameBytes}
+use Rattle.meaning.specs.Plain.{if_then_else_, any, keep, each, joined, indexFrom, numbers, upTo, sameBytes, Spot, nowhere, at, orElse, firstAt}
 
 -- ---- truth values
 pub bool-cases : {P : Type 0} (b : Bool) → (b ≡ true → P) → (b ≡ false → P) → P
@@ -34,6 +35,14 @@ if-both false r e = absurd (false≢true e)
 pub or-cases : {P : Type 0} (a b : Bool) → (a || b) ≡ true → (a ≡ true → P) → (b ≡ true → P) → P
 or-cases true b e f g = f refl
 or-cases false b e f g = g e
+
+pub either-right : (a b : Bool) → b ≡ true → (a || b) ≡ true
+either-right true b e = refl
+either-right false b e = e
+
+pub or-neither : (a b : Bool) → (a || b) ≡ false → (a ≡ false) × (b ≡ false)
+or-neither true b e = absurd (false≢true (sym e))
+or-neither false b e = (refl, e)
 
 -- two tests that each follow from the other are one
 pub same-test : (a b : Bool) → (a ≡ true → b ≡ true) → (b ≡ true → a ≡ true) → a ≡ b
@@ -59,8 +68,12 @@ pub data Among {A : Type 0} (a : A) : List A → Type 0 where
   here : {x : A} {xs : List A} → a ≡ x → Among a (x ∷ xs)
   there : {x : A} {xs : List A} → Among a xs → Among a (x ∷ xs)
 
-none-among : {A : Type 0} {a : A} → Among a [] → ⊥
+pub none-among : {A P : Type 0} {a : A} → Among a [] → P
 none-among m = elim m [ ]
+
+pub if-among : {A : Type 0} {x : A} (b : Bool) (l : List A) → Among x (if b then l else []) → (b ≡ true) × Among x l
+if-among true l m = (refl, m)
+if-among false l m = none-among m
 
 pub among-left : {A : Type 0} {a : A} {l : List A} (r : List A) → Among a l → Among a (l ++ r)
 among-left r (here e) = here e
@@ -83,7 +96,7 @@ keep-step p y l true q f (there m) = (there (f m .0), f m .1)
 keep-step p y l false q f m = (there (f m .0), f m .1)
 
 pub keep-among : {A : Type 0} (p : A → Bool) (l : List A) {x : A} → Among x (keep p l) → Among x l × (p x ≡ true)
-keep-among p [] m = absurd (none-among m)
+keep-among p [] m = none-among m
 keep-among p (y ∷ l) m = keep-step p y l (p y) refl (keep-among p l) m
 
 pub among-keep : {A : Type 0} (p : A → Bool) {x : A} {l : List A} → Among x l → p x ≡ true → Among x (keep p l)
@@ -96,7 +109,7 @@ among-each f (here e) = here (ap f e)
 among-each f (there m) = there (among-each f m)
 
 pub each-among : {A B : Type 0} (f : A → B) (l : List A) {y : B} → Among y (each f l) → (x : A) × Among x l × (y ≡ f x)
-each-among f [] m = absurd (none-among m)
+each-among f [] m = none-among m
 each-among f (x ∷ l) (here e) = (x, here refl, e)
 each-among f (x ∷ l) (there m) = let r = each-among f l m in (r .0, there (r .1), r .2)
 
@@ -105,7 +118,7 @@ among-joined f {y = y} (here {xs = l} e) k = among-left (joined f l) (subst (λ 
 among-joined f (there {x = z} m) k = among-right (f z) (among-joined f m k)
 
 pub joined-among : {A B : Type 0} (f : A → List B) (l : List A) {y : B} → Among y (joined f l) → (x : A) × Among x l × Among y (f x)
-joined-among f [] m = absurd (none-among m)
+joined-among f [] m = none-among m
 joined-among f (x ∷ l) m =
     append-among (f x) m (λ k. (x, here refl, k)) (λ k. let r = joined-among f l k in (r .0, there (r .1), r .2))
 
@@ -116,7 +129,7 @@ among-numbers i (suc n) k l h = bool-cases (eqb k i) (λ e. here (eqb-true k i e
     (λ e. let d : k ≡ i → ⊥ = eqb-false k i e in there (among-numbers (i + 1) n k (omega arith) (omega arith)))
 
 pub numbers-among : (i n : ℕ) {k : ℕ} → Among k (numbers i n) → (i ≤ k) × (k < i + n)
-numbers-among i zero m = absurd (none-among m)
+numbers-among i zero m = none-among m
 numbers-among i (suc n) (here e) = (omega arith, omega arith)
 numbers-among i (suc n) (there m) = let r = numbers-among (i + 1) n m in (omega arith, omega arith)
 
@@ -131,14 +144,10 @@ pub among-any : {A : Type 0} (p : A → Bool) {x : A} {l : List A} → Among x l
 among-any p (here e) q = rw (sym (ap p e) ∙ q)
 among-any p (there {x = y} m) q = bool-cases (p y) (λ e. rw e) (λ e. rw e (among-any p m q))
 
-any-step : {A : Type 0} (p : A → Bool) (y : A) (l : List A) (b : Bool) → p y ≡ b → (any p l ≡ true → (x : A) × Among x l × (p x ≡ true))
-    → (if b then true else any p l) ≡ true → (x : A) × Among x (y ∷ l) × (p x ≡ true)
-any-step p y l true q f e = (y, here refl, q)
-any-step p y l false q f e = let r = f e in (r .0, there (r .1), r .2)
-
 pub any-among : {A : Type 0} (p : A → Bool) (l : List A) → any p l ≡ true → (x : A) × Among x l × (p x ≡ true)
 any-among p [] e = absurd (false≢true e)
-any-among p (y ∷ l) e = any-step p y l (p y) refl (any-among p l) e
+any-among p (y ∷ l) e =
+    bool-cases (p y) (λ q. (y, here refl, q)) (λ q. let r = any-among p l (rw q at e) in (r .0, there (r .1), r .2))
 
 -- ---- what stands at a number
 pub at-among : {A : Type 0} (l : List A) (i : ℕ) (d : A) → i < length l → Among (getD l i d) l
@@ -159,11 +168,14 @@ getD-each f [] i d e h = absurd (not-suc-le-zero h)
 getD-each f (x ∷ l) zero d e h = refl
 getD-each f (x ∷ l) (suc i) d e h = getD-each f l i d e (le-of-suc-le-suc h)
 
--- a set holds no number past its length
+-- what a test tells from the default stands below the length; a set holds no number past its own
+pub getD-below : {A : Type 0} (p : A → Bool) (l : List A) (i : ℕ) (d : A) → p d ≡ false → p (getD l i d) ≡ true → i < length l
+getD-below p [] i d n e = absurd (false≢true (sym n ∙ e))
+getD-below p (x ∷ l) zero d n e = omega arith
+getD-below p (x ∷ l) (suc i) d n e = let r = getD-below p l i d n e in omega arith
+
 pub holds-below : (l : List Bool) (i : ℕ) → getD l i false ≡ true → i < length l
-holds-below [] i e = absurd (false≢true e)
-holds-below (b ∷ l) zero e = omega arith
-holds-below (b ∷ l) (suc i) e = let r = holds-below l i e in omega arith
+holds-below l i e = getD-below (λ b. b) l i false refl e
 
 -- ---- the first of which a test holds
 pub index-found : {A : Type 0} (p : A → Bool) (l : List A) (d : A) (i : ℕ) → any p l ≡ true
@@ -185,3 +197,17 @@ index-reads {A = A} text k l d m q h =
     let r = index-found f l d 0 (index-any f l 0 (omega arith)) in
     let e : m ≡ r .0 = omega (arith, r .2) in
     rw e (sym (same-bytes k (text (getD l (r .0) d)) (r .3)))
+
+-- ---- places
+pub if-nowhere : (b : Bool) (p : ℕ) (r : Spot) → (if b then at p else r) ≡ nowhere → (b ≡ false) × (r ≡ nowhere)
+if-nowhere true p r e = absurd (false≢true (cc))
+if-nowhere false p r e = (refl, e)
+
+else-nowhere : (x y : Spot) → orElse x y ≡ nowhere → (x ≡ nowhere) × (y ≡ nowhere)
+else-nowhere nowhere y e = (refl, e)
+else-nowhere (at p) y e = absurd (false≢true (cc))
+
+-- what is nowhere along a list is nowhere at an element
+pub first-nowhere : {A : Type 0} (f : A → Spot) {x : A} {l : List A} → firstAt f l ≡ nowhere → Among x l → f x ≡ nowhere
+first-nowhere f e (here {x = y} {xs = l} q) = ap f q ∙ else-nowhere (f y) (firstAt f l) e .0
+first-nowhere f e (there {x = y} {xs = l} m) = first-nowhere f (else-nowhere (f y) (firstAt f l) e .1) m

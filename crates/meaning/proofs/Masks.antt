@@ -1,5 +1,5 @@
 -- The bits of a mask: bit i of the number of a list of truth values is its element i, and bit i of the mask of n permissions is what
--- was said of permission i.
+-- was said of permission i. By induction on the list.
 -- Assumes nothing.
 use mathlib.Core.Path.{_≡_, refl, sym, ap, _∙_}
 use mathlib.Core.Bool.{Bool, true, false}

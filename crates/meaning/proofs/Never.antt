@@ -24,11 +24,12 @@ use Rattle.meaning.specs.Refusals.{accepted}
 use Rattle.meaning.specs.Load.{load}
 use Rattle.meaning.proofs.Lists.{Among, bool-cases, if-both, and-both, any-among, at-among}
 use Rattle.meaning.proofs.Accepted.{statementsIn, namesIn, policyIn, stands}
+use Rattle.meaning.proofs.Listed.{types-counted}
 use Rattle.meaning.proofs.Apart.{types-apart}
 use Rattle.meaning.proofs.Asked.{About, about-of, reads-type, class-reads}
 use Rattle.meaning.proofs.Masks.{bit-number, mask-bit, mask-below}
 use Rattle.meaning.proofs.Nine.{accepted-only}
-use Rattle.meaning.proofs.Typed.{types-length, type-means}
+use Rattle.meaning.proofs.Typed.{type-means}
 use Rattle.meaning.proofs.Rows.{typeName, classIn, className, permName, row-statement}
 
 -- ---- switch calls change booleans only
@@ -107,7 +108,7 @@ type-of : (s : List ℕ) → declaredTwice (statementsIn s) ≡ nowhere → (bs 
 unfolding withBools typeNumber
 type-of s once bs x a e =
     let r = reads-type (withBools (policyIn s) bs) x a e in
-    let h : a .type < length (namesIn s .types) = subst (λ (l : ℕ). a .type < l) (types-length s) (r .1) in
+    let h : a .type < length (namesIn s .types) = subst (λ (l : ℕ). a .type < l) (types-counted (statementsIn s)) (r .1) in
     (h, sym (type-means s once (getD (parts x) 2 []) (a .type) (r .0) h))
 
 -- the same of the text's policy with its booleans set in whatever way

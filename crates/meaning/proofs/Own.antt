@@ -4,7 +4,7 @@
 -- Assumes nothing.
 use mathlib.Core.Path.{_≡_, refl}
 use mathlib.Core.List.{List}
-use mathlib.Core.Bool.{Bool, true, false, not, _&&_, _||_, false≢true}
+use mathlib.Core.Bool.{Bool, true, false, _&&_, false≢true, and-false}
 use Prim.Native.Nat.{ℕ, _+_, _-_, _≤_, _<_}
 use native.Mathlib.Omega.{arith}
 use borrow.Author.Tests.{eqb-true, eq-eqb, ne-eqb, lt-ltb}
@@ -12,17 +12,13 @@ use lib.Dec.{eqb}
 use lib.ListN.{length}
 use Rattle.meaning.specs.Plain.{within, keep}
 use Rattle.meaning.specs.Words.{Word}
-use Rattle.meaning.specs.Statements.{Seen, outside, inE, ofE, Item, Statement, saying, idle, says, itemOf, Gathered, part}
-use Rattle.meaning.specs.Statements.{namesAt, pSecond, pFourth, pTest, pTypes}
-use Rattle.meaning.specs.Sizes.{ownLimit, Counts, noCounts, counted, longestName, expressionWords, commonPermissions}
-use Rattle.meaning.specs.Sizes.{ownPermissions, ownBesideCommon}
+use Rattle.meaning.specs.Statements.{Seen, outside, inE, ofE, Item, Statement, saying, says, itemOf, Gathered, part, namesAt, pSecond, pFourth, pTest, pTypes}
+use Rattle.meaning.specs.Sizes.{ownLimit, Counts, noCounts, counted, longestName, expressionWords, commonPermissions, ownPermissions, ownBesideCommon}
 use Rattle.meaning.specs.Rules.{constraintWords}
 use Rattle.meaning.specs.Keywords.{starts, kName, kClass, kCommon, kPerms}
 use Rattle.meaning.proofs.Lists.{bool-cases, and-both, or-cases}
-use Rattle.meaning.proofs.Lengths.{and-false, oneIf, All, empty, more, all-map, keep-if}
-use Rattle.meaning.proofs.Lengths.{keep-le}
-use Rattle.meaning.proofs.Steps.{active, active-starts, left-behind, say-cases, stop-silent, Form, none, own, perms, types}
-use Rattle.meaning.proofs.Steps.{roles, form-keyword}
+use Rattle.meaning.proofs.Lengths.{oneIf, All, empty, more, all-map, keep-if, keep-le}
+use Rattle.meaning.proofs.Steps.{active-starts, left-behind, say-cases, stop-silent, says-what, Form, none, own, perms, types, roles, form-keyword}
 use Rattle.meaning.proofs.Passed.{Fine, Passed, done, begins, goes, nothing-said, tail-cases, form-of, statements-all}
 
 -- a word that counts adds one, and that stays within its limit
@@ -69,10 +65,9 @@ in-expression st k i y =
     (rw i (simp and-false))
 
 expression-limit : (st : Seen) (k : ℕ) → says st k ≡ true → inE st ≡ true → ownLimit st k ≡ expressionWords
-unfolding says ownLimit
+unfolding ownLimit
 expression-limit st k s i =
-    let a = and-both (active (st .kw) && not (idle st)) (ofE st k || saying k) s .1 in
-    let o : ofE st k ≡ true = or-cases (ofE st k) (saying k) a (λ z. z) (in-expression st k i) in
+    let o : ofE st k ≡ true = or-cases (ofE st k) (saying k) (says-what st k s) (λ z. z) (in-expression st k i) in
     rw o
 
 pub few-words : {g : Gathered} → Passed outside noCounts g → All (λ s. length (constraintWords s) ≤ expressionWords) (g .rest)

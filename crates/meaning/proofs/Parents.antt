@@ -21,7 +21,7 @@ use borrow.Author.Tests.{eqb-true, eqb-false, eq-eqb, ne-eqb, ltb-true, ltb-fals
 use Rattle.meaning.specs.Plain.{if_then_else_, nowhere}
 use Rattle.meaning.specs.Statements.{Item, Statement}
 use Rattle.meaning.specs.Permissions.{Name}
-use Rattle.meaning.specs.Sets.{Names}
+use Rattle.meaning.specs.Sets.{Names, namesOf}
 use Rattle.meaning.specs.Policy.{Parent, noParent, parent, TypeEntry, Policy}
 use Rattle.meaning.specs.Rules.{Bound, boundsOf, parentIn, typeEntries, typesIn, policyOf}
 use Rattle.meaning.specs.Contradictions.{firstAgainst, comesTo, otherParent, boundClash}
@@ -29,6 +29,7 @@ use Rattle.meaning.specs.Contexts.{Context, typeAt}
 use Rattle.meaning.specs.Access.{ownAllows, withType, allows}
 use Rattle.meaning.proofs.Lists.{bool-cases, Among, here, there}
 use Rattle.meaning.proofs.Accepted.{statementsIn, namesIn, policyIn, NoEarlier}
+use Rattle.meaning.proofs.Listed.{types-counted}
 use Rattle.meaning.proofs.Agreed.{parts-agree, clear-step}
 use Rattle.meaning.proofs.Pigeons.{pigeons}
 
@@ -38,7 +39,7 @@ pub data Grounded (f : ℕ → Parent) : ℕ → ℕ → Type 0 where
   under : {x y d : ℕ} → f x ≡ parent y → Grounded f y d → Grounded f x (suc d)
 
 not-both : {p : Parent} {y : ℕ} → p ≡ noParent → p ≡ parent y → ⊥
-not-both e q = let z : _≡_ {A = ℕ} 0 1 = cc in omega arith
+not-both e q = false≢true (cc)
 
 one-parent : {p : Parent} {y z : ℕ} → p ≡ parent y → p ≡ parent z → y ≡ z
 one-parent e q = cc
@@ -163,11 +164,11 @@ module _ (n : ℕ) (b : Bound) (bs : List Bound) (e : boundClash n bs b ≡ fals
       goes-on b bs (stays b bs (r .1) n (omega arith) no-cycle) (g x .1)
 
 -- ---- all the bounds
--- the parents are below n; nothing is asked of the children
-abbrev pub InRange : ℕ → List Bound → Type 0
-InRange n bs = (b : Bound) → Among b bs → b .parent < n
+-- the parents of the bounds are below n; nothing is asked of the children
+abbrev pub BoundsBelow : ℕ → List Bound → Type 0
+BoundsBelow n bs = (b : Bound) → Among b bs → b .parent < n
 
-below-all : (n : ℕ) (bs : List Bound) → InRange n bs → Below n (parentIn bs)
+below-all : (n : ℕ) (bs : List Bound) → BoundsBelow n bs → Below n (parentIn bs)
 unfolding parentIn
 below-all n [] l y z e = absurd (not-both refl e)
 below-all n (b ∷ bs) l y z e = below-more n b bs (l b (here refl)) (below-all n bs (λ a m. l a (there m))) y z e
@@ -198,7 +199,7 @@ module _ (n : ℕ) (place : Bound → ℕ) where
       (λ q. own-child b (bs ++ before) x q ∙ sym (given-stays (b ∷ before) bs e x (b .parent) (own-child b before x q)))
       (λ h. other-child b (bs ++ before) x h ∙ sym (further b bs before x h))
 
-  go-through : (before bs : List Bound) → firstAgainst (boundClash n) place before bs ≡ nowhere → InRange n bs
+  go-through : (before bs : List Bound) → firstAgainst (boundClash n) place before bs ≡ nowhere → BoundsBelow n bs
       → Below n (parentIn before) → Ends (parentIn before) → Ends (parentIn (bs ++ before))
   go-through before [] e l w g x = g x
   go-through before (b ∷ bs) e l w g x =
@@ -208,7 +209,7 @@ module _ (n : ℕ) (place : Bound → ℕ) where
       (r .0, like (λ y. Unit {0}) (λ y z h q. tt) (λ y h. in-front before b bs (c .1) y) (r .1) tt)
 
 -- Where the bounds hold no refusal 8 and their parents are below n, each number is grounded, and one below n at a height below n.
-pub bounds-end : (n : ℕ) (place : Bound → ℕ) (bs : List Bound) → firstAgainst (boundClash n) place [] bs ≡ nowhere → InRange n bs
+pub bounds-end : (n : ℕ) (place : Bound → ℕ) (bs : List Bound) → firstAgainst (boundClash n) place [] bs ≡ nowhere → BoundsBelow n bs
     → (x : ℕ) → (d : ℕ) × Grounded (parentIn bs) x d × (x < n → d < n)
 unfolding parentIn
 bounds-end n place bs e l x =
@@ -227,33 +228,24 @@ entry-parent n bs perm i [] k d y e l = absurd (not-suc-le-zero l)
 entry-parent n bs perm i (x ∷ xs) zero d y e l = ap (parentIn bs) (omega arith)
 entry-parent n bs perm i (x ∷ xs) (suc k) d y e l = entry-parent n bs perm (i + 1) xs k d y (omega arith) (omega arith)
 
-entry-count : (n : Names) (bs : List Bound) (perm : List Item) (i : ℕ) (xs : List Name) → length (typeEntries n bs perm i xs) ≡ length xs
-unfolding typeEntries
-entry-count n bs perm i [] = refl
-entry-count n bs perm i (x ∷ xs) = ap suc (entry-count n bs perm (i + 1) xs)
-
-pub type-count : (n : Names) (ss : List Statement) → length (policyOf n ss .types) ≡ length (n .types)
-unfolding policyOf typesIn
-type-count n ss = entry-count n (boundsOf n ss) _ 0 (n .types)
-
 -- A type's parent is the one that the bounds give it.
-pub parent-is : (n : Names) (ss : List Statement) (x : ℕ) → x < length (policyOf n ss .types)
-    → parentOf (policyOf n ss) x ≡ parentIn (boundsOf n ss) x
+pub parent-is : (ss : List Statement) (x : ℕ) → x < length (namesOf ss .types)
+    → parentOf (policyOf (namesOf ss) ss) x ≡ parentIn (boundsOf (namesOf ss) ss) x
 unfolding policyOf typesIn typeAt
-parent-is n ss x l = entry-parent n (boundsOf n ss) _ 0 (n .types) x _ x (omega arith) (omega (arith, type-count n ss))
+parent-is ss x l = entry-parent (namesOf ss) _ _ 0 (namesOf ss .types) x _ x (omega arith) l
 
 -- Each type of a text with no earlier refusal is grounded, with fewer ancestors than there are types.
-pub parents-end : (s : List ℕ) → NoEarlier s → (in-range : InRange (length (namesIn s .types)) (boundsOf (namesIn s) (statementsIn s)))
+pub parents-end : (s : List ℕ) → NoEarlier s → (in-range : BoundsBelow (length (namesIn s .types)) (boundsOf (namesIn s) (statementsIn s)))
     → (x : ℕ) → x < length (policyIn s .types) → (d : ℕ) × Grounded (parentOf (policyIn s)) x d × (d < length (policyIn s .types))
 parents-end s c in-range x l =
     let n = namesIn s in
     let ss = statementsIn s in
     let k = length (n .types) in
-    let m = type-count n ss in
+    let m = types-counted ss in
     let h : x < k = omega arith in
     let r = bounds-end k (λ b. b .at) (boundsOf n ss) (parts-agree n ss (policyIn s) (c .agrees) .2) in-range x in
     let small = r .2 h in
-    let g = like (λ y. y < k) (λ y z q. below-all k (boundsOf n ss) in-range y z) (λ y q. parent-is n ss y (omega arith)) (r .1) h in
+    let g = like (λ y. y < k) (λ y z q. below-all k (boundsOf n ss) in-range y z) (parent-is ss) (r .1) h in
     (r .0, g, omega arith)
 
 -- ---- the question asked again
@@ -261,21 +253,13 @@ parents-end s c in-range x l =
 pub no-parent : (p : Policy) (k : ℕ) (s t : Context) (c i : ℕ) → parentOf p (s .type) ≡ noParent → allows p k s t c i ≡ ownAllows p s t c i
 unfolding allows
 no-parent p zero s t c i e = refl
-no-parent p (suc k) s t c i e = rw e (go (ownAllows p s t c i))
-  where
-    go : (b : Bool) → (if b then true else false) ≡ b
-    go true = refl
-    go false = refl
+no-parent p (suc k) s t c i e = rw e (bool-cases (ownAllows p s t c i) (λ q. rw q) (λ q. rw q))
 
 -- With a parent both must allow it.
 pub has-parent : (p : Policy) (k : ℕ) (s t : Context) (c i y : ℕ) → parentOf p (s .type) ≡ parent y
     → allows p (suc k) s t c i ≡ (ownAllows p s t c i && allows p k (withType s y) t c i)
 unfolding allows
-has-parent p k s t c i y e = rw e (go (ownAllows p s t c i) (allows p k (withType s y) t c i))
-  where
-    go : (b r : Bool) → (if b then r else false) ≡ (b && r)
-    go true r = refl
-    go false r = refl
+has-parent p k s t c i y e = rw e (bool-cases (ownAllows p s t c i) (λ q. rw q) (λ q. rw q))
 
 asks-from : (p : Policy) (t : Context) (c i : ℕ) {x d : ℕ} → Grounded (parentOf p) x d → (k m : ℕ) → d ≤ k → d ≤ m
     → (s : Context) → s .type ≡ x → allows p k s t c i ≡ allows p m s t c i
@@ -296,7 +280,7 @@ pub asks-all : (p : Policy) (s t : Context) (c i : ℕ) {d : ℕ} → Grounded (
 asks-all p s t c i g k m l h = asks-from p t c i g k m l h s refl
 
 -- So, of a text, a source whose type has a parent is allowed what its own type is and what the question asked again with the parent is.
-pub parent-asked : (s : List ℕ) → NoEarlier s → (in-range : InRange (length (namesIn s .types)) (boundsOf (namesIn s) (statementsIn s)))
+pub parent-asked : (s : List ℕ) → NoEarlier s → (in-range : BoundsBelow (length (namesIn s .types)) (boundsOf (namesIn s) (statementsIn s)))
     → (a t : Context) (c i y : ℕ) → a .type < length (policyIn s .types) → parentOf (policyIn s) (a .type) ≡ parent y
     → let p = policyIn s in allows p (length (p .types)) a t c i ≡ (ownAllows p a t c i && allows p (length (p .types)) (withType a y) t c i)
 parent-asked s e in-range a t c i y l q =

@@ -6,23 +6,20 @@
 use mathlib.Core.Path.{_≡_, refl}
 use mathlib.Core.Bool.{Bool, true, false, _&&_, false≢true}
 use mathlib.Core.List.{List, [], _∷_}
-use mathlib.Core.Logic.{_⊎_, inl, inr}
+use mathlib.Core.Logic.{⊎-elim}
 use Prim.Native.Nat.{ℕ, _≤_}
-use native.Mathlib.Omega.{arith}
 use borrow.Author.Tests.{ltb-false}
 use lib.Dec.{eqb, ltb}
 use lib.ListN.{length, getD}
 use Rattle.meaning.specs.Plain.{if_then_else_}
 use Rattle.meaning.specs.Words.{Word}
 use Rattle.meaning.specs.Grammar.{G, policy, left, isNone}
-use Rattle.meaning.specs.Statements.{Seen, begun, outside, step, ofE, Branch, Statement, says, itemOf, ends, formAt}
-use Rattle.meaning.specs.Statements.{Gathered, gather}
-use Rattle.meaning.specs.Sizes.{limits, countOf, ownLimit, Counts, noCounts, counted, exceeds, placeOf, cNone, longestName}
-use Rattle.meaning.specs.Sizes.{nestedParentheses, Verdict, fits, ungrammatical, oversize, readFrom, readText}
+use Rattle.meaning.specs.Statements.{Seen, begun, outside, step, ofE, Branch, Statement, says, itemOf, ends, formAt, Gathered, gather}
+use Rattle.meaning.specs.Sizes.{limits, countOf, ownLimit, Counts, noCounts, counted, exceeds, placeOf, cNone, longestName, nestedParentheses, Verdict, fits, ungrammatical, oversize, readFrom, readText}
 use Rattle.meaning.specs.Keywords.{kName, kLparen}
-use Rattle.meaning.proofs.Lists.{bool-cases}
-use Rattle.meaning.proofs.Lengths.{or-neither, All, empty, more}
-use Rattle.meaning.proofs.Steps.{active, active-starts, starts-ends, begin-step, stays, keyword-kept, Form, none, form-at}
+use Rattle.meaning.proofs.Lists.{bool-cases, or-neither}
+use Rattle.meaning.proofs.Lengths.{All, empty, more}
+use Rattle.meaning.proofs.Steps.{active, active-starts, starts-ends, begin-step, stays, keyword-kept, quiet-on, says-quiet, Form, none, form-at}
 
 -- ---- a text that fits, from some word on
 -- what is gathered with one more word in front of r: it begins a statement in the branch b, or it begins none
@@ -68,8 +65,8 @@ pub data Passed : Seen → Counts → Gathered → Type 0 where
 -- a turn of the reading that does not end it
 turn : (none over : Bool) (p q : ℕ) (v : Verdict) → (if none then ungrammatical p else if over then oversize q else v) ≡ fits
     → (over ≡ false) × (v ≡ fits)
-turn true over p q v e = let z : _≡_ {A = ℕ} 0 1 = cc in absurd (omega arith)
-turn false true p q v e = let z : _≡_ {A = ℕ} 0 1 = cc in absurd (omega arith)
+turn true over p q v e = absurd (false≢true (cc))
+turn false true p q v e = absurd (false≢true (cc))
 turn false false p q v e = (refl, e)
 
 passed : (end : ℕ) (ws : List Word) (g : G) (st : Seen) (c : Counts) (last n : ℕ) (b : Branch) → readFrom end g st c last ws ≡ fits
@@ -92,25 +89,15 @@ unfolding readText
 text-passed end ws e = passed end ws policy outside noCounts 0 0 Branch.always e
 
 -- ---- what is gathered
-silent : (st : Seen) (k : ℕ) → active (st .kw) ≡ false → says st k ≡ false
-unfolding says
-silent st k h = rw h
-
 pub nothing-said : {st : Seen} {c : Counts} {g : Gathered} → Passed st c g → active (st .kw) ≡ false → g .items ≡ []
 nothing-said done h = refl
 nothing-said (begins w b a x p) h = refl
-nothing-said {st} (goes w a x p) h = rw (silent st (w .kind) h) (nothing-said p (from (keyword-kept st (w .kind) a))) where
-  from : (step st (w .kind) .kw ≡ st .kw) ⊎ (active (step st (w .kind) .kw) ≡ false) → active (step st (w .kind) .kw) ≡ false
-  from (inl e) = rw e h
-  from (inr e) = e
+nothing-said {st} (goes w a x p) h = rw (says-quiet st (w .kind) h) (nothing-said p (quiet-on st (w .kind) a h))
 
 -- the items behind a word that begins nothing are of the same statement, or there are none
 pub tail-cases : {P : Type 0} (st : Seen) (k : ℕ) {c : Counts} {r : Gathered} → active k ≡ false → Passed (step st k) c r
     → (step st k .kw ≡ st .kw → P) → (r .items ≡ [] → P) → P
-tail-cases {P} st k {r = r} a p f g = from (keyword-kept st k a) where
-  from : (step st k .kw ≡ st .kw) ⊎ (active (step st k .kw) ≡ false) → P
-  from (inl e) = f e
-  from (inr e) = g (nothing-said p e)
+tail-cases st k a p f g = ⊎-elim f (λ e. g (nothing-said p e)) (keyword-kept st k a)
 
 pub form-of : {st : Seen} {c : Counts} {g : Gathered} → Passed st c g → Form (st .kw) (g .form)
 form-of done = none

@@ -99,7 +99,7 @@ abbrev itemPlace : Item → ℕ
 itemPlace i = i .at
 
 -- one step of `gather`: the word, at p, begins a statement (c) or is an item i of one (d), or neither
-abbrev stepped : Bool → Bool → ℕ → ℕ → Branch → Item → Gathered → Gathered
+abbrev pub stepped : Bool → Bool → ℕ → ℕ → Branch → Item → Gathered → Gathered
 stepped c d f p b i r =
     if c
     then record { items = []; form = f; rest = record { form = r .form; at = p; branch = b; items = r .items } ∷ r .rest }

@@ -2,15 +2,14 @@
 -- And whether a branch is in force depends only on the booleans that its if's condition holds (`force-same`).
 -- Assumes nothing.
 use Prim.Native.Nat.{ℕ}
-use native.Mathlib.Omega.{arith}
 use mathlib.Core.Path.{_≡_, refl, ap}
-use mathlib.Core.Bool.{Bool, true, false, not}
+use mathlib.Core.Bool.{Bool, true, false, not, false≢true}
 use mathlib.Core.List.{List, [], _∷_}
 use lib.Dec.{leb}
 use lib.ListN.{getD}
 use Rattle.meaning.specs.Plain.{if_then_else_}
 use Rattle.meaning.specs.Statements.{Branch, always, whenTrue, whenFalse}
-use Rattle.meaning.specs.Expressions.{Sign, binds, bindsNot, loosest, Token, leaf, sign, negation, lpar, rpar, Code, push, does, negates, Waiting, wait, waitNot, paren, Popped, popped, postfix}
+use Rattle.meaning.specs.Expressions.{binds, bindsNot, loosest, Token, leaf, sign, negation, lpar, rpar, Code, push, does, negates, Waiting, wait, waitNot, paren, Popped, popped, postfix}
 use Rattle.meaning.specs.Policy.{Switch, Policy}
 use Rattle.meaning.specs.Access.{isOn, ifHolds, inForce}
 use Rattle.meaning.specs.Questions.{withBools}
@@ -18,12 +17,6 @@ use Rattle.meaning.proofs.Lists.{Among, here, there, append-among}
 use Rattle.meaning.proofs.Grouping.{Agree, value-same}
 
 -- ---- operands
-no-sign : {L : Type 0} {x : L} (s : Sign) → push x ≡ does s → ⊥
-no-sign s e = let z : _≡_ {A = ℕ} 0 1 = cc in omega arith
-
-no-negation : {L : Type 0} {x : L} → push x ≡ negates → ⊥
-no-negation e = let z : _≡_ {A = ℕ} 0 1 = cc in omega arith
-
 -- what goes out of those that wait is no operand
 abbrev outBy : {L : Type 0} → Bool → Code L → Popped L → List Waiting → Popped L
 outBy b c q ks = if b then record { out = c ∷ q .out; rest = q .rest } else record { out = []; rest = ks }
@@ -38,8 +31,8 @@ popped-none : {L : Type 0} (b : ℕ) (ks : List Waiting) {x : L} → Among (push
 unfolding popped
 popped-none b [] m = elim m [ ]
 popped-none b (paren ∷ ks) m = elim m [ ]
-popped-none b (wait s ∷ ks) m = out-none (leb b (binds s)) (does s) (popped b ks) (wait s ∷ ks) (no-sign s) (popped-none b ks) m
-popped-none b (waitNot ∷ ks) m = out-none (leb b bindsNot) negates (popped b ks) (waitNot ∷ ks) no-negation (popped-none b ks) m
+popped-none b (wait s ∷ ks) m = out-none (leb b (binds s)) (does s) (popped b ks) (wait s ∷ ks) (λ e. false≢true (cc)) (popped-none b ks) m
+popped-none b (waitNot ∷ ks) m = out-none (leb b bindsNot) negates (popped b ks) (waitNot ∷ ks) (λ e. false≢true (cc)) (popped-none b ks) m
 
 -- The operands of what is kept are operands of the words.
 pub pushed : {L : Type 0} (ks : List Waiting) (ts : List (Token L)) {x : L} → Among (push x) (postfix ks ts) → Among (leaf x) ts

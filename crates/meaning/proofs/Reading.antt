@@ -17,7 +17,7 @@ use Rattle.meaning.specs.Words.{Word}
 use Rattle.meaning.specs.Grammar.{G, policy, In, nullable, isNone, left}
 use Rattle.meaning.specs.Statements.{Seen, outside, step}
 use Rattle.meaning.specs.Sizes.{Counts, noCounts, counted, exceeds, placeOf, Verdict, fits, ungrammatical, oversize, readFrom, readText}
-use Rattle.meaning.proofs.Texts.{both-of}
+use Rattle.meaning.proofs.Lists.{both-and}
 use Rattle.meaning.proofs.Viable.{lefts, begins, stops, whole-in, whole-out}
 
 abbrev pub kinds : List Word → List ℕ
@@ -93,7 +93,7 @@ reading (w ∷ ws) end last g st c n =
           behind = s .behind;
           all = ap (w ∷_) (s .all);
           some = s .some;
-          small = both-of (not (exceeds st w (counted st k c))) _ (ap not f) (s .small);
+          small = both-and (not (exceeds st w (counted st k c))) _ (ap not f) (s .small);
           stop = s .stop;
         }
 

@@ -23,9 +23,9 @@ use Rattle.meaning.specs.Neverallow.{rulePair, rulePerms}
 use Rattle.meaning.specs.Contexts.{nameless}
 use Rattle.meaning.specs.Access.{rowCovers}
 use Rattle.meaning.specs.Keywords.{isAv}
-use Rattle.meaning.proofs.Lists.{Among, bool-cases, and-both, both-and, same-test, same-bytes, bytes-same, keep-among, among-keep, each-among, among-each, joined-among, among-joined, any-among, among-any, at-among, length-each, getD-each, holds-below, index-found}
+use Rattle.meaning.proofs.Lists.{Among, bool-cases, and-both, both-and, same-test, same-bytes, bytes-same, keep-among, among-keep, each-among, among-each, joined-among, among-joined, any-among, among-any, at-among, length-each, getD-each, getD-below, holds-below, index-found}
 use Rattle.meaning.proofs.Apart.{Apart}
-use Rattle.meaning.proofs.Clashes.{ruleCovers, class-below}
+use Rattle.meaning.proofs.Clashes.{ruleCovers}
 
 -- ---- the names at numbers
 abbrev pub typeName : Names → ℕ → List ℕ
@@ -77,7 +77,7 @@ module _ (n : Names) (st : Statement) where
   pub perm-below : (c i : ℕ) → holds (rulePerms (ruleOf n st) c) i ≡ true → (c < length (n .classes)) × (i < length (classIn n c .perms))
   unfolding rulePerms permsFor permSets ruleOf
   perm-below c i e =
-      let h : c < length (n .classes) = let l = class-below (permSets n st) c i e in omega (arith, length-each (permsFor st) (n .classes)) in
+      let h : c < length (n .classes) = let l = getD-below (λ x. holds x i) (permSets n st) c [] refl e in omega (arith, length-each (permsFor st) (n .classes)) in
       let p = isIn (nameWords (permPart st)) in
       let k : holds (permsFor st (classIn n c)) i ≡ true = sym (ap (λ x. holds x i) (perms-are c h)) ∙ e in
       (h, set-below p (classIn n c .perms) i (in-first i (namedIn (classPart st) (className n c)) (setOf p (classIn n c .perms)) k))

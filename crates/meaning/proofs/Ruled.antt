@@ -5,7 +5,7 @@
 -- Assumes nothing.
 use Prim.Native.Nat.{ℕ, _<_}
 use mathlib.Core.Path.{_≡_, refl, sym, _∙_}
-use mathlib.Core.Bool.{Bool, true, false, _||_, false≢true}
+use mathlib.Core.Bool.{Bool, true, false, _||_, false≢true, or-false}
 use mathlib.Core.List.{List, [], _∷_}
 use borrow.Author.Tests.{eqb-true}
 use lib.Dec.{eqb}
@@ -19,8 +19,7 @@ use Rattle.meaning.specs.Sets.{Names, namesOf, namedIn}
 use Rattle.meaning.specs.Policy.{Row, TypeRow, Policy}
 use Rattle.meaning.specs.Rules.{classNumber, typeNumber, permsFor, permSets, classNumbers, ruleOf, avStatements, rulesOf, rowOf, rowsOf, typeRowsOf, ifOf, policyOf}
 use Rattle.meaning.specs.Contexts.{nameless, classAt}
-use Rattle.meaning.proofs.Lists.{bool-cases, both-and, bytes-same, Among, keep-among, each-among, joined-among, among-any, getD-each, length-each}
-use Rattle.meaning.proofs.Texts.{either-right}
+use Rattle.meaning.proofs.Lists.{bool-cases, either-right, both-and, bytes-same, Among, keep-among, each-among, joined-among, among-any, getD-each, length-each}
 use Rattle.meaning.proofs.Accepted.{NoEarlier, statementsIn, namesIn, policyIn}
 use Rattle.meaning.proofs.Seats.{due, paid}
 use Rattle.meaning.proofs.Forms.{plainForm}
@@ -85,10 +84,6 @@ module _ (f : ℕ) (e : isTypeRule f ≡ true) where
   result-due : (q : ℕ) → due f q ≡ eqb q pLast
   result-due q =
       rw (not-other kType refl, not-other kTypealias refl, not-other kTypebounds refl, not-other kRoleTransition refl, e) (or-false (eqb q pLast))
-    where
-      or-false : (a : Bool) → (a || false) ≡ a
-      or-false true = refl
-      or-false false = refl
 
   result-uses : (q : ℕ) → eqb q pLast ≡ true → usesAt f q ≡ aType
   unfolding usesAt

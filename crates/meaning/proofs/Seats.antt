@@ -1,7 +1,7 @@
 -- What the reading of a text has come to, as far as it bears on the statements' shape: a `Seat` is the statement's keyword, the
 -- position, whether a list is open, and whether an if has begun. From a seat a word leads to one of two (`nexts`), as a parenthesis
 -- is open or not (`next-seat`). `proper` is what holds at each word of a text of the grammar, between the seats before and behind it;
--- `Walks` says that it holds at all of some words (proofs/Walks.antt has that it does).
+-- `Walks` says that it holds at all of some words (Walks has that it does).
 -- Assumes nothing.
 use Prim.Native.Nat.{ℕ, _-_}
 use mathlib.Core.Path.{_≡_, refl}
@@ -101,17 +101,6 @@ next-seat f st k = by (eqb (st .depth) 0) (step-alike f st k)
     by false a = there (here (one a))
 
 -- ---- what holds at each word
--- no word says anything here: outside statements, and behind `else`
-abbrev pub silent : ℕ → Bool
-silent w = eqb w 0 || eqb w kElse
-
--- a statement begins
-abbrev pub opens : ℕ → Bool
-opens k = starts k && not (eqb k kElse)
-
-abbrev pub closes : ℕ → ℕ → Bool
-closes w k = starts k || eqb k kSemi || (eqb k kOpen && (eqb w kIf || eqb w kElse))
-
 -- a name must stand here: the type of `type`, `typealias` and `typebounds`, the result of a type rule, the new role of a role_transition
 abbrev pub due : ℕ → ℕ → Bool
 due w p =
@@ -138,10 +127,6 @@ namesOnly w p = eqb w kTypebounds || due w p || ((isAv w || isTypeRule w) && eqb
 abbrev pub elseBehind : Seat → ℕ → Bool
 elseBehind a k = not (eqb k kElse) || a .ifs
 
--- the keyword stays up to the end of the statement
-abbrev pub keywordStays : Seat → ℕ → Seat → Bool
-keywordStays a k b = if closes (a .kw) k then opens k || silent (b .kw) || eqb (a .kw) kIf else eqb (b .kw) (a .kw)
-
 -- names where nothing else may say something
 abbrev pub nameHere : Seat → ℕ → Bool
 nameHere a k = not (namesOnly (a .kw) (a .pos)) || eqb k kName || (not (within pTest pTypes (a .pos)) && not (saying k))
@@ -160,11 +145,10 @@ abbrev pub goesOn : Seat → ℕ → Bool
 goesOn a k = not (eqb (a .kw) kConstrain && within pUsers pTypes (a .pos)) || not (starts k || eqb k kSemi)
 
 unfoldable pub proper : Seat → ℕ → Seat → Bool
-proper a k b = elseBehind a k && (keywordStays a k b && (nameHere a k && (duesMet a k b && (tells a k b && goesOn a k))))
+proper a k b = elseBehind a k && (nameHere a k && (duesMet a k b && (tells a k b && goesOn a k)))
 
 pub record Proper (a : Seat) (k : ℕ) (b : Seat) : Type 0 where
   pub else-behind : elseBehind a k ≡ true
-  pub keyword-stays : keywordStays a k b ≡ true
   pub name-here : nameHere a k ≡ true
   pub dues-met : duesMet a k b ≡ true
   pub told : tells a k b ≡ true
@@ -174,11 +158,10 @@ pub proper-is : (a : Seat) (k : ℕ) (b : Seat) → proper a k b ≡ true → Pr
 unfolding proper
 proper-is a k b e =
     let p = and-both (elseBehind a k) _ e in
-    let q = and-both (keywordStays a k b) _ (p .1) in
-    let r = and-both (nameHere a k) _ (q .1) in
-    let s = and-both (duesMet a k b) _ (r .1) in
-    let t = and-both (tells a k b) (goesOn a k) (s .1) in
-    record { else-behind = p .0; keyword-stays = q .0; name-here = r .0; dues-met = s .0; told = t .0; goes-on = t .1 }
+    let q = and-both (nameHere a k) _ (p .1) in
+    let r = and-both (duesMet a k b) _ (q .1) in
+    let s = and-both (tells a k b) (goesOn a k) (r .1) in
+    record { else-behind = p .0; name-here = q .0; dues-met = r .0; told = s .0; goes-on = s .1 }
 
 -- every word is proper; f tells whether an if has begun before
 unfoldable pub Walks : Bool → Seen → List ℕ → Type 0

@@ -1,31 +1,22 @@
 -- In a text that is not refused with 4 every name that must be declared is (`found`), so its number is below the count of the names
--- of its kind: of roles, users and booleans (`named-below`), classes (`class-below`) and types, by their own name or by an alias
--- (`type-below`). A name's number is the place of the first that reads so, and one does.
+-- of its kind: of roles, users and booleans (`named-below`), and of classes (`class-below`); of types, which aliases name too, it is
+-- in Aliased. A name's number is the place of the first that reads so, and one does.
 -- Assumes nothing.
-use Prim.Native.Nat.{ℕ, suc, _+_, _<_}
+use Prim.Native.Nat.{ℕ, _<_}
 use native.Mathlib.Omega.{arith}
-use mathlib.Core.Path.{_≡_, refl, sym, ap, _∙_}
+use mathlib.Core.Path.{_≡_, refl, sym}
 use mathlib.Core.Bool.{Bool, true, false, false≢true}
 use mathlib.Core.List.{List, [], _∷_}
 use lib.Dec.{eqb}
 use lib.ListN.{length, getD}
-use Rattle.meaning.specs.Plain.{if_then_else_, any, indexFrom, sameBytes, Spot, nowhere, at, orElse, firstAt}
+use Rattle.meaning.specs.Plain.{if_then_else_, any, indexFrom, sameBytes, nowhere, at, firstAt}
 use Rattle.meaning.specs.Keywords.{kName}
 use Rattle.meaning.specs.Statements.{Item, Statement}
 use Rattle.meaning.specs.Names.{Decl, declared, usesAt, uses, serves, isServed, unknown, undeclared, dClass}
 use Rattle.meaning.specs.Permissions.{Class, classOf, classesIn}
 use Rattle.meaning.specs.Sets.{nameOf, ofKind}
 use Rattle.meaning.specs.Rules.{numberOf, classNumber}
-use Rattle.meaning.proofs.Lists.{bool-cases, and-both, same-bytes, bytes-same, Among, here, there, among-keep, among-each, any-among}
-
--- ---- what is nowhere along a list is nowhere at an element
-or-nowhere : (a b : Spot) → orElse a b ≡ nowhere → (a ≡ nowhere) × (b ≡ nowhere)
-or-nowhere nowhere b e = (refl, e)
-or-nowhere (at p) b e = let z : _≡_ {A = ℕ} 0 1 = cc in absurd (omega arith)
-
-first-nowhere : {A : Type 0} (f : A → Spot) {x : A} {l : List A} → Among x l → firstAt f l ≡ nowhere → f x ≡ nowhere
-first-nowhere f (here {x = y} {xs = l} e) n = ap f e ∙ or-nowhere (f y) (firstAt f l) n .0
-first-nowhere f (there {x = y} {xs = l} m) n = first-nowhere f m (or-nowhere (f y) (firstAt f l) n .1)
+use Rattle.meaning.proofs.Lists.{bool-cases, and-both, same-bytes, bytes-same, Among, among-keep, among-each, among-any, any-among, index-found, index-reads, first-nowhere}
 
 -- ---- a declaration of one of the kinds u that reads x
 pub record Found (ss : List Statement) (u : List ℕ) (x : List ℕ) : Type 0 where
@@ -36,7 +27,7 @@ pub record Found (ss : List Statement) (u : List ℕ) (x : List ℕ) : Type 0 wh
 
 known-served : (b : Bool) (p : ℕ) → (if b then nowhere else at p) ≡ nowhere → b ≡ true
 known-served true p e = refl
-known-served false p e = let z : _≡_ {A = ℕ} 0 1 = cc in absurd (omega arith)
+known-served false p e = absurd (false≢true (cc))
 
 -- Every name that must be of some kind is declared so.
 pub found : (ss : List Statement) → undeclared ss ≡ nowhere → {st : Statement} {i : Item} → Among st ss → Among i (st .items)
@@ -45,29 +36,15 @@ unfolding undeclared unknown uses isServed serves
 found ss n {st = st} {i = i} m l e f h k u q =
     let ds = declared ss in
     let a = known-served (isServed ds (uses st i) (i .text)) (i .at)
-    (first-nowhere (unknown ds st) l (first-nowhere (λ st. firstAt (unknown ds st) (st .items)) m n)) in
+    (first-nowhere (unknown ds st) (first-nowhere (λ st. firstAt (unknown ds st) (st .items)) n m) l) in
     let r = any-among (serves (k ∷ u) (i .text)) ds (rw (e, h, q, uses) at a) in
     let b = and-both (any (eqb (r .0 .kind)) (k ∷ u)) (sameBytes (i .text) (r .0 .text)) (r .2) in
     record { decl = r .0; among = r .1; kind = b .0; reads = sym (same-bytes (i .text) (r .0 .text) (b .1)) }
 
--- ---- the place of the first element of which p holds, where one is
-index-at : {A : Type 0} (p : A → Bool) (d : A) {x : A} {l : List A} → Among x l → p x ≡ true → (i : ℕ)
-    → (j : ℕ) × (indexFrom p i l ≡ i + j) × (j < length l) × (p (getD l j d) ≡ true)
-index-at p d (here {x = y} e) q i = (0, rw (sym (ap p e) ∙ q) (omega arith), omega arith, sym (ap p e) ∙ q)
-index-at p d (there {x = y} {xs = l} m) q i =
-    bool-cases (p y) (λ e. (0, rw e (omega arith), omega arith, e))
-    (λ e. let r = index-at p d m q (i + 1) in (suc (r .0), rw (e, r .1) (omega arith), omega arith, r .3))
-
-pub index-below : {A : Type 0} (p : A → Bool) {x : A} {l : List A} → Among x l → p x ≡ true → indexFrom p 0 l < length l
-index-below p {x = x} m q = let r = index-at p x m q 0 in omega arith
-
-pub index-holds : {A : Type 0} (p : A → Bool) (d : A) {x : A} {l : List A} → Among x l → p x ≡ true → p (getD l (indexFrom p 0 l) d) ≡ true
-index-holds p d {l = l} m q =
-    let r = index-at p d m q 0 in
-    let e : indexFrom p 0 l ≡ r .0 = omega arith in
-    rw e (r .3)
-
 -- ---- the number of a name that is found
+index-below : {A : Type 0} (p : A → Bool) {x : A} {l : List A} → Among x l → p x ≡ true → indexFrom p 0 l < length l
+index-below p {x = x} {l = l} m q = let r = index-found p l x 0 (among-any p m q) in omega (arith, r .2)
+
 one-kind : {ss : List Statement} {k : ℕ} {x : List ℕ} (r : Found ss (k ∷ []) x) → eqb (r .decl .kind) k ≡ true
 one-kind {k = k} r = bool-cases (eqb (r .decl .kind) k) (λ e. e) (λ e. absurd (false≢true (rw e at (r .kind))))
 
@@ -91,5 +68,5 @@ class-below ss x r = index-below (λ c. sameBytes x (c .name .text)) (among-clas
 -- the class of that number reads so
 pub class-reads : (ss : List Statement) (x : List ℕ) (d : Class) → Found ss (dClass ∷ []) x
     → x ≡ getD (classesIn ss) (classNumber (classesIn ss) x) d .name .text
-unfolding classNumber classOf
-class-reads ss x d r = same-bytes x _ (index-holds (λ c. sameBytes x (c .name .text)) d (among-classes ss x r) (reads-same (r .reads)))
+unfolding classNumber
+class-reads ss x d r = sym (index-reads (λ c. c .name .text) x (classesIn ss) d _ refl (class-below ss x r))

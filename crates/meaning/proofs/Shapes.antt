@@ -2,8 +2,8 @@
 --   named   every word at a position where only names may stand is a name
 --   owed    where a name must stand, one stands
 --   told    in a constraint, the words behind u1 .. t2 stand at the position of what these are compared with (`heads`)
--- Every word is proper (Walks). What is gathered from a word on has its shape if what is gathered behind the word has (`shape-on`), and
--- at the `;` that ends the statement nothing is left to say (`shape-over`).
+-- Every word is proper (Walks); what it does to the reading is in Steps. What is gathered from a word on has its shape if what is
+-- gathered behind the word has (`shape-on`), and at the `;` that ends the statement nothing is left to say (`shape-over`).
 -- Assumes nothing.
 use Prim.Native.Nat.{ℕ}
 use native.Mathlib.Omega.{arith}
@@ -14,13 +14,14 @@ use borrow.Author.Tests.{eqb-true, leb-true, le-leb, not-true}
 use lib.Dec.{eqb, leb}
 use lib.ListN.{length}
 use Rattle.meaning.specs.Plain.{if_then_else_, within, keep}
-use Rattle.meaning.specs.Keywords.{kName, kRparen, kSemi, kClass, kRole, kIf, kElse, kConstrain, kU1, kU2, kR1, kR2, starts, isTerm}
+use Rattle.meaning.specs.Keywords.{kName, kSemi, kClass, kRole, kConstrain, starts, isTerm}
 use Rattle.meaning.specs.Words.{Word, wordsOf}
-use Rattle.meaning.specs.Statements.{Seen, outside, step, compared, inE, ofE, idle, saying, says, Item, itemOf, Branch, always, Statement, statementsOf, ends, formAt, Gathered, gather, pFirst, pTest, pUsers, pRoles, pTypes}
-use Rattle.meaning.proofs.Lists.{bool-cases, and-both, both-and, or-cases, Among, here, there}
-use Rattle.meaning.proofs.Texts.{either-right}
+use Rattle.meaning.specs.Statements.{Seen, outside, step, compared, inE, ofE, idle, saying, says, Item, itemOf, Branch, always, Statement, statementsOf, ends, formAt, Gathered, gather, pFirst, pTest, pUsers, pTypes}
+use Rattle.meaning.proofs.Lists.{bool-cases, either-right, or-neither, and-both, both-and, or-cases, Among, here, there}
 use Rattle.meaning.proofs.Reading.{kinds, fits-is}
-use Rattle.meaning.proofs.Seats.{Seat, seat, begunIf, silent, opens, due, paid, speaks, namesOnly, Proper, proper-is, Walks}
+use Rattle.meaning.proofs.Places.{stepped}
+use Rattle.meaning.proofs.Steps.{active, active-starts, starts-ends, begin-step, stays, quiet-on, stop-silent, says-quiet, says-what, ofE-in, compared-is}
+use Rattle.meaning.proofs.Seats.{Seat, seat, begunIf, due, paid, speaks, namesOnly, Proper, proper-is, Walks}
 use Rattle.meaning.proofs.Walks.{walks}
 use Rattle.meaning.proofs.Forms.{plainForm, form-plain}
 use Rattle.meaning.proofs.Accepted.{NoEarlier, statementsIn}
@@ -30,74 +31,36 @@ abbrev more : Seen → Word → List Item → Bool → List Item
 more st w is s = if s then itemOf st w ∷ is else is
 
 abbrev pub gathered : Bool → Bool → Bool → Seen → Word → Branch → Gathered → Gathered
-gathered c e s st w b r =
-    let f = if e then formAt st (w .kind) else r .form in
-    if c
-    then record { items = []; form = f; rest = record { form = r .form; at = w .at; branch = b; items = r .items } ∷ r .rest }
-    else record { items = more st w (r .items) s; form = f; rest = r .rest }
+gathered c e s st w b r = stepped c s (if e then formAt st (w .kind) else r .form) (w .at) b (itemOf st w) r
 
--- where no statement is, no word says anything
-says-quiet : (st : Seen) (k : ℕ) → silent (st .kw) ≡ true → says st k ≡ false
-unfolding says
-says-quiet st k e =
-    or-cases (eqb (st .kw) 0) (eqb (st .kw) kElse) e (λ p. rw (eqb-true (st .kw) 0 p, says)) (λ p. rw (eqb-true (st .kw) kElse p, says))
+-- what says something where only names may is a name
+name-said : (f : Bool) (st : Seen) (k : ℕ) {b : Seat} → Proper (seat f st) k b → says st k ≡ true → namesOnly (st .kw) (st .pos) ≡ true
+    → eqb k kName ≡ true
+name-said f st k p s e =
+    or-cases (eqb k kName) (not (inE st) && not (saying k)) (rw e at (p .name-here)) (λ q. q)
+    (λ q.
+    let r = and-both (not (inE st)) (not (saying k)) q in
+    or-cases (ofE st k) (saying k) (says-what st k s)
+    (λ t. absurd (false≢true (sym (not-true (inE st) (r .0)) ∙ ofE-in st k t)))
+    (λ t. absurd (false≢true (sym (not-true (saying k) (r .1)) ∙ t))))
 
--- what says something is a word of an expression or a name or the like; the first is no `;`
-says-what : (st : Seen) (k : ℕ) → says st k ≡ true → (ofE st k || saying k) ≡ true
-unfolding says
-says-what st k e = and-both (starts (st .kw) && not (eqb (st .kw) kElse) && not (idle st)) (ofE st k || saying k) e .1
+-- where a name must stand it says something
+due-said : (st : Seen) (k : ℕ) → speaks (st .kw) ≡ true → saying k ≡ true → says st k ≡ true
+unfolding says idle
+due-said st k e s =
+    let a = and-both (active (st .kw)) (not (eqb (st .kw) kClass || eqb (st .kw) kRole)) e in
+    rw (a .0, not-true (eqb (st .kw) kClass || eqb (st .kw) kRole) (a .1), says) (either-right (ofE st k) (saying k) s)
 
-ofE-what : (st : Seen) (k : ℕ) → ofE st k ≡ true → (inE st ≡ true) × (not (eqb k kSemi) ≡ true)
-unfolding ofE
-ofE-what st k e =
-    let own : Bool = eqb (st .kw) kIf && eqb (st .pos) pTest && eqb k kRparen && eqb (st .depth) 0 in
-    let a = and-both (inE st && not (starts k) && not (eqb k kSemi)) (not own) e in
-    let b = and-both (inE st && not (starts k)) (not (eqb k kSemi)) (a .0) in
-    (and-both (inE st) (not (starts k)) (b .0) .0, b .1)
-
--- within a statement the keyword stays; and where no statement is, none comes unless one begins
-module _ (f : Bool) (st : Seen) (k : ℕ) (p : Proper (seat f st) k (seat (begunIf f k) (step st k))) where
-  pub keyword-on : ends st k ≡ false → step st k .kw ≡ st .kw
-  unfolding ends
-  keyword-on e = eqb-true (step st k .kw) (st .kw) (rw e at (p .keyword-stays))
-
-  silent-on : opens k ≡ false → silent (st .kw) ≡ true → silent (step st k .kw) ≡ true
-  unfolding ends
-  silent-on o e =
-      bool-cases (ends st k)
-      (λ h. or-cases (silent (step st k .kw)) (eqb (st .kw) kIf) (rw (h, o) at (p .keyword-stays)) (λ q. q)
-      (λ q. absurd (false≢true (rw (eqb-true (st .kw) kIf q) at e))))
-      (λ h. rw (keyword-on h) e)
-
-  -- what says something where only names may is a name
-  name-said : says st k ≡ true → namesOnly (st .kw) (st .pos) ≡ true → eqb k kName ≡ true
-  name-said s e =
-      or-cases (eqb k kName) (not (inE st) && not (saying k)) (rw e at (p .name-here)) (λ q. q)
-      (λ q.
-      let r = and-both (not (inE st)) (not (saying k)) q in
-      or-cases (ofE st k) (saying k) (says-what st k s)
-      (λ t. absurd (false≢true (sym (not-true (inE st) (r .0)) ∙ ofE-what st k t .0)))
-      (λ t. absurd (false≢true (sym (not-true (saying k) (r .1)) ∙ t))))
-
-  -- where a name must stand it says something
-  due-said : speaks (st .kw) ≡ true → saying k ≡ true → says st k ≡ true
-  unfolding says idle
-  due-said e s =
-      let a = and-both (starts (st .kw) && not (eqb (st .kw) kElse)) (not (eqb (st .kw) kClass || eqb (st .kw) kRole)) e in
-      rw (a .0, not-true (eqb (st .kw) kClass || eqb (st .kw) kRole) (a .1), says) (either-right (ofE st k) (saying k) s)
-
--- so nothing is gathered there
-quiet : (ws : List Word) (f : Bool) (st : Seen) (n : ℕ) (b : Branch) → Walks f st (kinds ws) → silent (st .kw) ≡ true
-    → gather st n b ws .items ≡ []
-unfolding gather Walks
-quiet [] f st n b g e = refl
-quiet (w ∷ ws) f st n b g e =
-    by (opens k) refl _ (λ o. quiet ws (begunIf f k) (step st k) _ _ (g .1) (silent-on f st k (proper-is _ k _ (g .0)) o e))
+-- where no statement is, nothing is gathered
+quiet : (ws : List Word) (st : Seen) (n : ℕ) (b : Branch) → active (st .kw) ≡ false → gather st n b ws .items ≡ []
+unfolding gather
+quiet [] st n b e = refl
+quiet (w ∷ ws) st n b e = by (active k) refl _ (λ o. quiet ws (step st k) _ _ (quiet-on st k o e))
   where
     k : ℕ
     k = w .kind
 
-    by : (c : Bool) → opens k ≡ c → (r : Gathered) → (opens k ≡ false → r .items ≡ []) → gathered c (ends st k) (says st k) st w b r .items ≡ []
+    by : (c : Bool) → active k ≡ c → (r : Gathered) → (active k ≡ false → r .items ≡ []) → gathered c (ends st k) (says st k) st w b r .items ≡ []
     by true o r h = refl
     by false o r h = rw (says-quiet st k e) (h o)
 
@@ -121,19 +84,6 @@ pub record Shape (w p : ℕ) (is : List Item) : Type 0 where
   pub heads : eqb w kConstrain ≡ true → within pUsers pTypes p ≡ true → Heads p (keep inTest is)
   pub told : eqb w kConstrain ≡ true → Told (keep inTest is)
 
-or-false : (a b : Bool) → (a || b) ≡ false → (a ≡ false) × (b ≡ false)
-or-false true b e = absurd (false≢true (sym e))
-or-false false b e = (refl, e)
-
-pub compared-is : (k : ℕ) → within pUsers pTypes (compared k) ≡ true
-unfolding compared
-compared-is k = by (within kU1 kU2 k) (within kR1 kR2 k)
-  where
-    by : (a b : Bool) → within pUsers pTypes (if a then pUsers else if b then pRoles else pTypes) ≡ true
-    by true b = refl
-    by false true = refl
-    by false false = refl
-
 compares-in : (p : ℕ) → within pUsers pTypes p ≡ true → within pTest pTypes p ≡ true
 compares-in p e =
     let r = and-both (leb pUsers p) (leb p pTypes) e in
@@ -151,7 +101,7 @@ module _ (f : Bool) (st : Seen) (w : Word) (p : Proper (seat f st) (w .kind) (se
 
   goes : (starts (w .kind) ≡ false) × (eqb (w .kind) kSemi ≡ false)
   unfolding ends
-  goes = or-false (starts (w .kind)) (eqb (w .kind) kSemi) (or-false (starts (w .kind) || eqb (w .kind) kSemi) _ e .0)
+  goes = or-neither (starts (w .kind)) (eqb (w .kind) kSemi) (or-neither (starts (w .kind) || eqb (w .kind) kSemi) _ e .0)
 
   owed-on : (s : Bool) → says st (w .kind) ≡ s → paid (st .kw) (st .pos) ≡ false
       → (i : Item) × Among i (more st w is s) × (due (st .kw) (i .pos) ≡ true)
@@ -160,10 +110,10 @@ module _ (f : Bool) (st : Seen) (w : Word) (p : Proper (seat f st) (w .kind) (se
       bool-cases (paid (st .kw) (step st (w .kind) .pos))
       (λ q.
       let d = due (st .kw) (st .pos) in
-      let m : (d && speaks (st .kw) && saying (w .kind)) ≡ true = rw (goes .1, goes .0, keyword-on f st (w .kind) p e, q, n) at (p .dues-met) in
+      let m : (d && speaks (st .kw) && saying (w .kind)) ≡ true = rw (goes .1, goes .0, stays st (w .kind) e, q, n) at (p .dues-met) in
       let a = and-both (d && speaks (st .kw)) (saying (w .kind)) m in
       let b = and-both d (speaks (st .kw)) (a .0) in
-      (itemOf st w, rw (sym h ∙ due-said f st (w .kind) p (b .1) (a .1)) (here refl), b .0))
+      (itemOf st w, rw (sym h ∙ due-said st (w .kind) (b .1) (a .1)) (here refl), b .0))
       (λ q. let o = r .owed q in (o .0, later s (o .1), o .2))
     where
       later : (s : Bool) {i : Item} → Among i is → Among i (more st w is s)
@@ -212,22 +162,9 @@ shape-over f st b p =
       told = λ c. tt;
     }
 
-semi-quiet : (st : Seen) (k : ℕ) → eqb k kSemi ≡ true → says st k ≡ true → ⊥
-semi-quiet st k q s =
-    or-cases (ofE st k) (saying k) (says-what st k s) (λ t. false≢true (rw q at (ofE-what st k t .1)))
-    (λ t. false≢true (rw (eqb-true k kSemi q) at t))
-
-semi-out : (st : Seen) (k : ℕ) → eqb k kSemi ≡ true → silent (step st k .kw) ≡ true
+semi-out : (st : Seen) (k : ℕ) → eqb k kSemi ≡ true → active (step st k .kw) ≡ false
 unfolding step
 semi-out st k q = rw (eqb-true k kSemi q)
-
-pub opens-ends : (st : Seen) (k : ℕ) → opens k ≡ true → ends st k ≡ true
-unfolding ends
-opens-ends st k o = rw (and-both (starts k) (not (eqb k kElse)) o .0, ends)
-
-opens-pos : (st : Seen) (k : ℕ) → opens k ≡ true → step st k .pos ≡ pFirst
-unfolding step
-opens-pos st k o = rw (and-both (starts k) (not (eqb k kElse)) o .0, step)
 
 -- the statement that is being read
 shape-of : (ws : List Word) (f : Bool) (st : Seen) (n : ℕ) (b : Branch) → Walks f st (kinds ws) → plainForm (gather st n b ws .form) ≡ true
@@ -235,8 +172,8 @@ shape-of : (ws : List Word) (f : Bool) (st : Seen) (n : ℕ) (b : Branch) → Wa
 unfolding gather Walks
 shape-of [] f st n b g h = absurd (false≢true h)
 shape-of (w ∷ ws) f st n b g h =
-    by (opens k) (ends st k) (says st k) refl refl refl _ (shape-of ws (begunIf f k) (step st k) _ _ (g .1))
-    (quiet ws (begunIf f k) (step st k) _ _ (g .1)) h
+    by (active k) (ends st k) (says st k) refl refl refl _ (shape-of ws (begunIf f k) (step st k) _ _ (g .1))
+    (quiet ws (step st k) _ _) h
   where
     k : ℕ
     k = w .kind
@@ -247,18 +184,19 @@ shape-of (w ∷ ws) f st n b g h =
     over : eqb k kSemi ≡ true → Shape (st .kw) (st .pos) []
     over q = shape-over f st _ (rw (eqb-true k kSemi q) at p)
 
-    by : (c e s : Bool) → opens k ≡ c → ends st k ≡ e → says st k ≡ s → (r : Gathered)
+    by : (c e s : Bool) → active k ≡ c → ends st k ≡ e → says st k ≡ s → (r : Gathered)
         → (plainForm (r .form) ≡ true → (r .form ≡ step st k .kw) × Shape (step st k .kw) (step st k .pos) (r .items))
-        → (silent (step st k .kw) ≡ true → r .items ≡ [])
+        → (active (step st k .kw) ≡ false → r .items ≡ [])
         → plainForm (gathered c e s st w b r .form) ≡ true
         → (gathered c e s st w b r .form ≡ st .kw) × Shape (st .kw) (st .pos) (gathered c e s st w b r .items)
     by true true s o e q r i z h = let x = form-plain st k h in (x .0, over (x .1))
-    by true false s o e q r i z h = absurd (false≢true (sym e ∙ opens-ends st k o))
-    by false true true o e q r i z h = absurd (semi-quiet st k (form-plain st k h .1) q)
+    by true false s o e q r i z h = absurd (false≢true (sym e ∙ starts-ends st k (active-starts k o)))
+    by false true true o e q r i z h =
+        absurd (false≢true (sym (stop-silent st k (either-right (starts k) _ (form-plain st k h .1))) ∙ q))
     by false true false o e q r i z h = let x = form-plain st k h in (x .0, rw (z (semi-out st k (x .1))) (over (x .1)))
     by false false s o e q r i z h =
         let x = i h in
-        let y : step st k .kw ≡ st .kw = keyword-on f st k p e in
+        let y : step st k .kw ≡ st .kw = stays st k e in
         (x .0 ∙ y, shape-on f st w p e (r .items) (rw y at (x .1)) s q)
 
 -- and those behind it
@@ -267,16 +205,16 @@ shapes-of : (ws : List Word) (f : Bool) (st : Seen) (n : ℕ) (b : Branch) → W
 unfolding gather Walks
 shapes-of [] f st n b g m h = elim m [ ]
 shapes-of (w ∷ ws) f st n b g m h =
-    by (opens k) refl _ (shape-of ws (begunIf f k) (step st k) _ _ (g .1)) h (λ m. shapes-of ws (begunIf f k) (step st k) _ _ (g .1) m h) m
+    by (active k) refl _ (shape-of ws (begunIf f k) (step st k) _ _ (g .1)) h (λ m. shapes-of ws (begunIf f k) (step st k) _ _ (g .1) m h) m
   where
     k : ℕ
     k = w .kind
 
-    by : (c : Bool) → opens k ≡ c → (r : Gathered)
+    by : (c : Bool) → active k ≡ c → (r : Gathered)
         → (plainForm (r .form) ≡ true → (r .form ≡ step st k .kw) × Shape (step st k .kw) (step st k .pos) (r .items))
         → {x : Statement} → plainForm (x .form) ≡ true → (Among x (r .rest) → Shape (x .form) pFirst (x .items))
         → Among x (gathered c (ends st k) (says st k) st w b r .rest) → Shape (x .form) pFirst (x .items)
-    by true o r i h j (here e) = let y = i (rw e at h) in rw e (rw (sym (y .0), opens-pos st k o) at (y .1))
+    by true o r i h j (here e) = let y = i (rw e at h) in rw e (rw (sym (y .0), begin-step st k (active-starts k o)) at (y .1))
     by true o r i h j (there m) = j m
     by false o r i h j m = j m
 

@@ -10,8 +10,7 @@ use lib.Dec.{eqb}
 use lib.ListN.{length}
 use Rattle.meaning.specs.Plain.{keep}
 use Rattle.meaning.specs.Words.{Word}
-use Rattle.meaning.specs.Statements.{Seen, outside, step, ofE, Item, saying, idle, says, itemOf, ends, Gathered, namesAt}
-use Rattle.meaning.specs.Statements.{pFirst}
+use Rattle.meaning.specs.Statements.{Seen, outside, step, ofE, Item, saying, idle, says, itemOf, ends, Gathered, namesAt, pFirst}
 use Rattle.meaning.specs.Sizes.{Counts, noCounts}
 use Rattle.meaning.specs.Keywords.{starts, kName, kOpen, kSemi, kClass, kRole, kIf, kElse}
 use Rattle.meaning.proofs.Lists.{bool-cases, and-both, or-cases}

@@ -4,7 +4,7 @@
 --   smallest           every clash is the one shown or stands behind it
 -- Assumes nothing.
 use mathlib.Core.Path.{_≡_, sym, ap, _∙_, subst}
-use mathlib.Core.Bool.{Bool}
+use mathlib.Core.Bool.{Bool, false≢true}
 use mathlib.Core.List.{List, [], _∷_}
 use mathlib.Core.Logic.{_⊎_, inl, inr}
 use Prim.Native.Nat.{ℕ, _<_}
@@ -92,7 +92,7 @@ clashes-sorted n rs r =
 -- ---- what the search finds
 first-smallest : (l : List Clash) (x : Clash) → Sorted Before l → headOf l ≡ broken x → Among x l × ((y : Clash) → Among y l → (y ≡ x) ⊎ Before x y)
 unfolding headOf
-first-smallest [] x r e = let z : _≡_ {A = ℕ} 0 1 = cc in absurd (omega arith)
+first-smallest [] x r e = absurd (false≢true (cc))
 first-smallest (c ∷ l) x r e =
     let q : c ≡ x = cc in
     (here (sym q), λ y m. elim m [ here p ↦ inl (p ∙ q) | there k ↦ inr (subst (λ w. Before w y) q (r .0 y k)) ])

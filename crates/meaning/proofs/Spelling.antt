@@ -1,5 +1,5 @@
 -- The names of the kinds are the kinds of their spellings: as the grammar spells them, and as the words of a text are read.
--- And the truth tables of the two-sided signs.
+-- And the truth tables of the two-sided signs. All by computation.
 -- Assumes nothing.
 use Prim.Native.Nat.{ℕ}
 use Prim.Native.String.{String}

@@ -4,21 +4,17 @@
 -- Each is by the tests in the definition, in their order.
 -- Assumes nothing.
 use mathlib.Core.Path.{_≡_, refl, sym, _∙_, subst}
-use mathlib.Core.Bool.{Bool, true, false, not, _&&_, _||_, false≢true}
+use mathlib.Core.Bool.{Bool, true, false, not, _&&_, _||_, false≢true, and-false, or-true}
 use mathlib.Core.Logic.{_⊎_, inl, inr}
 use Prim.Native.Nat.{ℕ, _≤_, _<_}
 use native.Mathlib.Omega.{arith}
-use borrow.Author.Tests.{eqb-true, ltb-false}
-use lib.Dec.{eqb, ltb}
+use borrow.Author.Tests.{eqb-true, leb-true, ltb-false}
+use lib.Dec.{eqb, leb, ltb}
 use Rattle.meaning.specs.Plain.{if_then_else_, within}
-use Rattle.meaning.specs.Statements.{Seen, begun, outside, moved, inE, comparing, behind, compared, stepE, stepS, step}
-use Rattle.meaning.specs.Statements.{pFirst, pSecond, pThird, pClass, pOver, pTest, pBehind, minus, ofE, saying, says, ends}
-use Rattle.meaning.specs.Statements.{formAt}
-use Rattle.meaning.specs.Keywords.{kName, kOpen, kClose, kLparen, kRparen, kSemi, kColon, kComma, kTilde, kStar, kMinus}
-use Rattle.meaning.specs.Keywords.{kClass, kCommon, kRole, kAllow, kIf, kElse, kConstrain, kInherits, kAlias, kTrue, kFalse}
-use Rattle.meaning.specs.Keywords.{kSelf, kU1, kU2, kR1, kR2, kPerms, kRoleTypes, kRoleAllow, starts, isTerm}
+use Rattle.meaning.specs.Statements.{Seen, begun, outside, moved, inE, comparing, behind, compared, stepE, stepS, step, pFirst, pSecond, pThird, pClass, pOver, pTest, pUsers, pTypes, pBehind, minus, ofE, idle, saying, says, ends, formAt}
+use Rattle.meaning.specs.Keywords.{kName, kOpen, kClose, kLparen, kRparen, kSemi, kColon, kComma, kTilde, kStar, kMinus, kClass, kCommon, kRole, kAllow, kIf, kElse, kConstrain, kInherits, kAlias, kTrue, kFalse, kSelf, kU1, kU2, kR1, kR2, kPerms, kRoleTypes, kRoleAllow, starts, isTerm}
 use Rattle.meaning.proofs.Lists.{bool-cases, and-both, or-cases}
-use Rattle.meaning.proofs.Lengths.{and-false, or-true, if-all}
+use Rattle.meaning.proofs.Lengths.{if-all}
 
 -- a statement begins; `else` begins none
 abbrev pub active : ℕ → Bool
@@ -41,11 +37,14 @@ unfolding ends
 brace-ends st k e f = rw (e, f) (simp or-true)
 
 -- ---- a step
-compared-later : (k : ℕ) → 0 < compared k
+pub compared-is : (k : ℕ) → within pUsers pTypes (compared k) ≡ true
 unfolding compared
-compared-later k =
-    bool-cases (within kU1 kU2 k) (λ e. rw e (omega arith))
-    (λ e. rw e (bool-cases (within kR1 kR2 k) (λ e. rw e (omega arith)) (λ e. rw e (omega arith))))
+compared-is k =
+    let P : ℕ → Type 0 = λ p. within pUsers pTypes p ≡ true in
+    if-all P (within kU1 kU2 k) (λ e. refl) (λ e. if-all P (within kR1 kR2 k) (λ e. refl) (λ e. refl))
+
+compared-later : (k : ℕ) → 0 < compared k
+compared-later k = omega (arith, leb-true pUsers (compared k) (and-both (leb pUsers (compared k)) _ (compared-is k) .0))
 
 behind-later : (st : Seen) → 0 < behind st
 unfolding behind
@@ -110,6 +109,11 @@ keyword-kept st k h =
     bool-cases (starts k) (λ a. inr (left-behind st k a h))
     (step-cases (λ x. (x .kw ≡ st .kw) ⊎ (active (x .kw) ≡ false)) st k (λ z. inr refl) (λ p d n. inl refl) (λ s b. inl refl))
 
+-- where no statement is, none comes unless one begins
+pub quiet-on : (st : Seen) (k : ℕ) → active k ≡ false → active (st .kw) ≡ false → active (step st k .kw) ≡ false
+quiet-on st k a h =
+    bool-cases (starts k) (λ s. left-behind st k s a) (step-cases (λ x. active (x .kw) ≡ false) st k (λ z. refl) (λ p d n. h) (λ s b. h))
+
 -- ---- the first position is not come back to, and a name that stands there alone leaves it
 pub first-before : (st : Seen) (k : ℕ) → ends st k ≡ false → step st k .pos ≡ pFirst → st .pos ≡ pFirst
 first-before st k e =
@@ -141,6 +145,20 @@ unfolding says ofE ends
 stop-silent st k h =
     let y : saying k ≡ false = ends-silent st k (rw h) in
     or-cases (starts k) (eqb k kSemi) h (λ z. rw (y, z) (simp and-false)) (λ z. rw (y, z) (simp and-false))
+
+-- where no statement is, no word says anything
+pub says-quiet : (st : Seen) (k : ℕ) → active (st .kw) ≡ false → says st k ≡ false
+unfolding says
+says-quiet st k h = rw h
+
+-- what says something is a word of an expression, or a name or the like
+pub says-what : (st : Seen) (k : ℕ) → says st k ≡ true → (ofE st k || saying k) ≡ true
+unfolding says
+says-what st k e = and-both (active (st .kw) && not (idle st)) (ofE st k || saying k) e .1
+
+pub ofE-in : (st : Seen) (k : ℕ) → ofE st k ≡ true → inE st ≡ true
+unfolding ofE
+ofE-in st k e = bool-cases (inE st) (λ z. z) (λ z. absurd (false≢true (rw z at e)))
 
 -- ---- the form of a statement by its keyword
 pub data Form (k : ℕ) : ℕ → Type 0 where

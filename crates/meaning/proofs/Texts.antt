@@ -1,37 +1,15 @@
 -- The texts of a grammar by its shape: of two grammars one after the other (`_·_`), of one or the other (`or`), and the empty text.
--- Beside that what the proofs on the grammar need of truth values, and the step from a test of every rule to each (`each-rule`).
+-- And the step from a test of every rule to each (`each-rule`).
 -- Assumes nothing.
 use Prim.Native.Nat.{ℕ, zero, suc}
 use mathlib.Core.Path.{_≡_, refl, sym, _∙_, ap}
-use mathlib.Core.Logic.{_⊎_, inl, inr, ⊎-elim}
-use mathlib.Core.Bool.{Bool, true, false, not, _&&_, _||_, false≢true, and-eq-true-iff}
+use mathlib.Core.Logic.{_⊎_, inl, inr}
+use mathlib.Core.Bool.{Bool, true, false, not, false≢true}
 use mathlib.Core.List.{List, [], _∷_, _++_, append-assoc}
 use lib.ListN.{getD}
-use Rattle.meaning.specs.Plain.{if_then_else_, every}
+use Rattle.meaning.specs.Plain.{every}
 use Rattle.meaning.specs.Grammar.{G, none, eps, tok, seq, alt, star, nt, _·_, In, in-eps, in-tok, in-seq, in-left, in-right, in-stop, in-more, in-rule, nullable, isNone, or, rule, rules}
-
--- ---- truth values
-pub both : (a b : Bool) → (a && b) ≡ true → (a ≡ true) × (b ≡ true)
-both a b e = and-eq-true-iff a b .0 e
-
-pub both-of : (a b : Bool) → a ≡ true → b ≡ true → (a && b) ≡ true
-both-of a b e f = and-eq-true-iff a b .1 (e, f)
-
-pub either : (a b : Bool) → (a || b) ≡ true → (a ≡ true) ⊎ (b ≡ true)
-either true b e = inl refl
-either false b e = inr e
-
-either-left : (a b : Bool) → a ≡ true → (a || b) ≡ true
-either-left true b e = refl
-either-left false b e = absurd (false≢true e)
-
-pub either-right : (a b : Bool) → b ≡ true → (a || b) ≡ true
-either-right true b e = refl
-either-right false b e = e
-
-first-and-rest : (a b : Bool) → (if a then b else false) ≡ true → (a ≡ true) × (b ≡ true)
-first-and-rest true b e = (refl, e)
-first-and-rest false b e = absurd (false≢true e)
+use Rattle.meaning.proofs.Lists.{and-both, both-and, if-both, or-cases, either-right}
 
 -- a test that every rule passes, and `none`, which stands for a rule that is not there: each rule passes it
 pub each-rule : (f : G → Bool) → every f rules ≡ true → f none ≡ true → (i : ℕ) → f (rule i) ≡ true
@@ -40,8 +18,8 @@ each-rule f e z i = at rules e i
   where
     at : (l : List G) → every f l ≡ true → (i : ℕ) → f (getD l i none) ≡ true
     at [] e i = z
-    at (x ∷ xs) e zero = first-and-rest (f x) (every f xs) e .0
-    at (x ∷ xs) e (suc i) = at xs (first-and-rest (f x) (every f xs) e .1) i
+    at (x ∷ xs) e zero = if-both (f x) (every f xs) e .0
+    at (x ∷ xs) e (suc i) = at xs (if-both (f x) (every f xs) e .1) i
 
 -- ---- the texts of two grammars, one after the other
 pub some-is : {g : G} {ks : List ℕ} → In g ks → isNone g ≡ false
@@ -136,8 +114,8 @@ unfolding nullable
 empty-in none e = absurd (false≢true e)
 empty-in eps e = in-eps refl
 empty-in (tok k) e = absurd (false≢true e)
-empty-in (seq a b) e = let p = both (nullable a) (nullable b) e in in-seq [] [] refl (empty-in a (p .0)) (empty-in b (p .1))
-empty-in (alt a b) e = ⊎-elim (λ p. in-left (empty-in a p)) (λ p. in-right (empty-in b p)) (either (nullable a) (nullable b) e)
+empty-in (seq a b) e = let p = and-both (nullable a) (nullable b) e in in-seq [] [] refl (empty-in a (p .0)) (empty-in b (p .1))
+empty-in (alt a b) e = or-cases (nullable a) (nullable b) e (λ p. in-left (empty-in a p)) (λ p. in-right (empty-in b p))
 empty-in (star a) e = in-stop refl
 empty-in (nt i) e = absurd (false≢true e)
 
@@ -147,7 +125,7 @@ unfolding rules nullable
 rule-full i e = absurd (false≢true (sym (ap not e) ∙ each-rule (λ g. not (nullable g)) refl refl i))
 
 pub cons-nil : {A : Type 0} (k : ℕ) (ks : List ℕ) → k ∷ ks ≡ [] → A
-cons-nil k ks e = let z : false ≡ true = cc in absurd (false≢true z)
+cons-nil k ks e = absurd (false≢true (cc))
 
 front-nil : (u v : List ℕ) → [] ≡ u ++ v → u ≡ []
 front-nil [] v e = refl
@@ -160,8 +138,8 @@ empty-out (in-tok {k = k} e) z = cons-nil k [] (sym e ∙ z)
 empty-out (in-seq {a = a} {b = b} u v e p q) z =
     let n : u ≡ [] = front-nil u v (sym z ∙ e) in
     let m : v ≡ [] = sym (ap (λ x. x ++ v) n) ∙ sym e ∙ z in
-    both-of (nullable a) (nullable b) (empty-out p n) (empty-out q m)
-empty-out (in-left {a = a} {b = b} p) z = either-left (nullable a) (nullable b) (empty-out p z)
+    both-and (nullable a) (nullable b) (empty-out p n) (empty-out q m)
+empty-out (in-left {a = a} {b = b} p) z = rw (empty-out p z)
 empty-out (in-right {a = a} {b = b} p) z = either-right (nullable a) (nullable b) (empty-out p z)
 empty-out (in-stop e) z = refl
 empty-out (in-more u v e p q) z = refl

@@ -3,53 +3,30 @@
 -- A name that a type has is no alias's, for they share a name space (Apart); an alias has the number of its type.
 -- Assumes nothing.
 use mathlib.Core.Path.{_≡_, refl, sym, ap, _∙_}
-use mathlib.Core.Bool.{Bool, true, false, _&&_, _||_}
+use mathlib.Core.Bool.{Bool, true, false, _&&_, _||_, false≢true}
 use mathlib.Core.List.{List, [], _∷_}
 use mathlib.Core.Logic.{_⊎_, inl, inr}
-use Prim.Native.Nat.{ℕ, zero, suc, _+_, _<_}
-use native.Mathlib.Nat.{not-suc-le-zero, le-of-suc-le-suc}
+use Prim.Native.Nat.{ℕ, _<_}
 use native.Mathlib.Omega.{arith}
 use borrow.Author.Tests.{eqb-true}
 use lib.Dec.{eqb, ltb}
 use lib.ListN.{length, getD}
 use Rattle.meaning.specs.Plain.{if_then_else_, within, keep, each, joined, indexFrom, sameBytes, nowhere}
-use Rattle.meaning.specs.Statements.{Item, Statement, part, namesAt, ofForm, pFirst, pThird}
+use Rattle.meaning.specs.Statements.{Item, Statement, part, namesAt, pFirst, pThird}
 use Rattle.meaning.specs.Names.{Decl, declaresAt, declares, declOf, declaredBy, declared, objectR, space, firstText, declaredTwice, dType, dAlias, dBool}
 use Rattle.meaning.specs.Permissions.{Name, itemName}
 use Rattle.meaning.specs.Sets.{Alias, Names, nameOf, ofKind, aliasesBy, typeNamed, namesOf}
 use Rattle.meaning.specs.Policy.{noParent, TypeEntry}
-use Rattle.meaning.specs.Rules.{Bound, boundsOf, numberOf, aliasEntry, typeEntries, typesIn, policyOf}
+use Rattle.meaning.specs.Rules.{numberOf, aliasEntry, typesIn, policyOf}
 use Rattle.meaning.specs.Contexts.{nameless, aliased, typeNumber}
-use Rattle.meaning.specs.Keywords.{kName, kType, kTypealias, kPermissive}
-use Rattle.meaning.proofs.Lists.{Among, here, there, bool-cases, and-both, or-cases, same-bytes, keep-among, among-keep, each-among, among-each, joined-among, among-joined, at-among, index-reads}
+use Rattle.meaning.specs.Keywords.{kName, kType, kTypealias}
+use Rattle.meaning.proofs.Lists.{Among, here, there, if-among, bool-cases, and-both, or-cases, same-bytes, bytes-same, keep-among, among-keep, each-among, among-each, joined-among, among-joined, at-among, getD-each, index-reads}
 use Rattle.meaning.proofs.Accepted.{statementsIn, namesIn, policyIn}
+use Rattle.meaning.proofs.Listed.{types-named, types-counted}
 use Rattle.meaning.proofs.Apart.{same-declaration}
 use Rattle.meaning.proofs.Rows.{typeName}
 
--- ---- the types of a policy are those of its text
-module _ (n : Names) (bs : List Bound) (perm : List Item) where
-  entries-length : (i : ℕ) (ns : List Name) → length (typeEntries n bs perm i ns) ≡ length ns
-  unfolding typeEntries
-  entries-length i [] = refl
-  entries-length i (x ∷ ns) = ap suc (entries-length (i + 1) ns)
-
-  entries-name : (i : ℕ) (ns : List Name) (k : ℕ) (d : TypeEntry) → k < length ns → getD (typeEntries n bs perm i ns) k d .name ≡ getD ns k nameless
-  unfolding typeEntries
-  entries-name i [] k d h = absurd (not-suc-le-zero h)
-  entries-name i (x ∷ ns) zero d h = refl
-  entries-name i (x ∷ ns) (suc k) d h = entries-name (i + 1) ns k d (le-of-suc-le-suc h)
-
-pub types-length : (s : List ℕ) → length (policyIn s .types) ≡ length (namesIn s .types)
-unfolding policyOf typesIn
-types-length s =
-    let ss = statementsIn s in
-    entries-length (namesIn s) (boundsOf (namesIn s) ss) (joined (part pFirst) (ofForm kPermissive ss)) 0 (namesIn s .types)
-
 -- ---- a type's name is no alias's
-if-among : {A : Type 0} {x : A} (b : Bool) (l : List A) → Among x (if b then l else []) → (b ≡ true) × Among x l
-if-among true l m = (refl, m)
-if-among false l m = elim m [ ]
-
 -- the item of an alias declares one
 declares-alias : (st : Statement) (i : Item) → (eqb (st .form) kType || eqb (st .form) kTypealias) ≡ true → i .pos ≡ pThird → i .kind ≡ kName
     → declares st i ≡ dAlias
@@ -100,11 +77,19 @@ module _ (s : List ℕ) (once : declaredTwice (statementsIn s) ≡ nowhere) wher
       omega arith
 
 -- ---- the number found for a name
-own-name : (al : List Alias) (x : List ℕ) → ((a : Alias) → Among a al → a .name .text ≡ x → ⊥) → typeNamed al x ≡ x
+-- of the name x: it is an alias, or none is of that name
+pub alias-cases : {P : Type 0} (al : List Alias) (x : List ℕ) → ((a : Alias) → Among a al → a .name .text ≡ x → typeNamed al x ≡ a .type → P)
+    → (typeNamed al x ≡ x → ((a : Alias) → Among a al → a .name .text ≡ x → ⊥) → P) → P
 unfolding typeNamed
-own-name [] x h = refl
-own-name (a ∷ al) x h =
-    bool-cases (sameBytes x (a .name .text)) (λ e. absurd (h a (here refl) (sym (same-bytes _ _ e)))) (λ e. rw e (own-name al x (λ b m. h b (there m))))
+alias-cases [] x f g = g refl (λ a m e. elim m [ ])
+alias-cases (a ∷ al) x f g =
+    bool-cases (sameBytes x (a .name .text)) (λ e. f a (here refl) (sym (same-bytes _ _ e)) (rw e))
+    (λ e. alias-cases al x (λ b m r q. f b (there m) r (rw e q)) (λ q n. g (rw e q) (λ b m. other b m e n)))
+  where
+    other : (b : Alias) → Among b (a ∷ al) → sameBytes x (a .name .text) ≡ false → ((b : Alias) → Among b al → b .name .text ≡ x → ⊥)
+        → b .name .text ≡ x → ⊥
+    other b (here h) e n q = false≢true (sym e ∙ rw (sym (ap (λ b. b .name .text) h) ∙ q) (bytes-same x))
+    other b (there m) e n q = n b m q
 
 alias-number : (n : Names) (al : List Alias) (x : List ℕ) (none : ℕ)
     → (aliased (each (aliasEntry n) al) x none ≡ none) ⊎ (aliased (each (aliasEntry n) al) x none ≡ numberOf (n .types) (typeNamed al x))
@@ -124,12 +109,13 @@ type-means s once x j e h =
     let n = namesIn s in
     let p = policyIn s in
     let none : TypeEntry = record { name = nameless; parent = noParent; permissive = false } in
-    let l : length (p .types) ≡ length (n .types) = types-length s in
+    let l : length (p .types) ≡ length (n .types) = types-counted (statementsIn s) in
     either-number (ltb (indexFrom (λ t. sameBytes x (t .name .text)) 0 (p .types)) (length (p .types))) _ _ j (sym e)
     (λ q.
     let a : getD (p .types) j none .name .text ≡ x = index-reads (λ t. t .name .text) x (p .types) none j q (omega arith) in
-    let b : typeName n j ≡ x = ap (λ y. y .text) (sym (entries-name n _ _ 0 (n .types) j none h)) ∙ a in
-    b ∙ sym (own-name (n .aliases) x (λ c m w. no-alias s once c _ m (at-among (n .types) j nameless h) (w ∙ sym b))))
+    let b : typeName n j ≡ x = ap (λ y. getD y j nameless .text) (sym (types-named (statementsIn s)))
+    ∙ ap (λ y. y .text) (getD-each (λ t. t .name) (p .types) j none nameless (omega arith)) ∙ a in
+    b ∙ alias-cases (n .aliases) x (λ c m w q. absurd (no-alias s once c _ m (at-among (n .types) j nameless h) (w ∙ sym b))) (λ q no. sym q))
     (λ q. elim (alias-number n (n .aliases) x (length (p .types))) [
       | inl w ↦ absurd (omega arith)
       | inr w ↦ index-reads (λ y. y .text) (typeNamed (n .aliases) x) (n .types) nameless j (sym w ∙ q) h

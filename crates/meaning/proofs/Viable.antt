@@ -4,14 +4,14 @@
 -- Assumes nothing.
 use Prim.Native.Nat.{ℕ, zero, suc}
 use mathlib.Core.Path.{_≡_, refl, sym, _∙_}
-use mathlib.Core.Logic.{⊎-elim}
 use mathlib.Core.Bool.{Bool, true, false, _&&_, _||_, false≢true}
 use mathlib.Core.List.{List, [], _∷_, _++_, append-nil}
 use lib.Dec.{eqb}
 use lib.ListN.{getD}
 use Rattle.meaning.specs.Grammar.{G, none, eps, tok, seq, alt, star, nt, _·_, policy, In, in-eps, in-tok, in-seq, in-left, in-stop, in-rule, nullable, isNone, or, leftBy, leftIn, left, rule, rules}
 use Rattle.meaning.specs.Keywords.{spelt, marks, keywords, kName, kOpen, kClose, kSemi, kColon, kSame, kClass, kCommon, kAttribute, kAllow, kUser, kConstrain, kRoles, kU1, kU2}
-use Rattle.meaning.proofs.Texts.{both, both-of, either, either-right, each-rule, some-is, orBy, empty-in, empty-out}
+use Rattle.meaning.proofs.Lists.{and-both, both-and, or-cases, either-right}
+use Rattle.meaning.proofs.Texts.{each-rule, some-is, orBy, empty-in, empty-out}
 use Rattle.meaning.proofs.Left.{seqBy, tokBy, left-sound, left-complete}
 
 -- what is left of g behind words of these kinds
@@ -70,11 +70,11 @@ has-text none e = absurd (false≢true e)
 has-text eps e = ([], in-eps refl)
 has-text (tok k) e = (k ∷ [], in-tok refl)
 has-text (seq a b) e =
-    let p = both (clean a) (clean b) e in
+    let p = and-both (clean a) (clean b) e in
     let s = has-text a (p .0) in
     let t = has-text b (p .1) in
     (s .0 ++ t .0, in-seq (s .0) (t .0) refl (s .1) (t .1))
-has-text (alt a b) e = let s = has-text a (both (clean a) (clean b) e .0) in (s .0, in-left (s .1))
+has-text (alt a b) e = let s = has-text a (and-both (clean a) (clean b) e .0) in (s .0, in-left (s .1))
 has-text (star a) e = ([], in-stop refl)
 has-text (nt i) e = (getD samples i [], in-rule (whole-in (rule i) (getD samples i []) e))
 
@@ -97,16 +97,15 @@ unfolding clean
 after-clean none y e f = e
 after-clean eps y e f = f
 after-clean (tok k) y e f = f
-after-clean (seq a b) y e f = let p = both (clean a) (clean b) e in after-clean a (b · y) (p .0) (after-clean b y (p .1) f)
-after-clean (alt a b) y e f = both-of (clean (alt a b)) (clean y) e f
-after-clean (star a) y e f = both-of (clean a) (clean y) e f
-after-clean (nt i) y e f = both-of (clean (nt i)) (clean y) e f
+after-clean (seq a b) y e f = let p = and-both (clean a) (clean b) e in after-clean a (b · y) (p .0) (after-clean b y (p .1) f)
+after-clean (alt a b) y e f = both-and (clean (alt a b)) (clean y) e f
+after-clean (star a) y e f = both-and (clean a) (clean y) e f
+after-clean (nt i) y e f = both-and (clean (nt i)) (clean y) e f
 
 after-good : (a y : G) → good a ≡ true → clean y ≡ true → good (a · y) ≡ true
 unfolding good isNone
 after-good a y g f =
-    ⊎-elim (λ n. rw (is-none a n)) (λ c. either-right (isNone (a · y)) (clean (a · y)) (after-clean a y c f))
-    (either (isNone a) (clean a) g)
+    or-cases (isNone a) (clean a) g (λ n. rw (is-none a n)) (λ c. either-right (isNone (a · y)) (clean (a · y)) (after-clean a y c f))
 
 or-good : (a b : G) → good a ≡ true → good b ≡ true → good (or a b) ≡ true
 unfolding or good isNone clean
@@ -115,7 +114,7 @@ or-good a b g h = by (isNone a) (isNone b) refl refl
     by : (m n : Bool) → isNone a ≡ m → isNone b ≡ n → good (orBy m n a b) ≡ true
     by true n e f = h
     by false true e f = g
-    by false false e f = both-of (clean a) (clean b) (rw (e, _||_) at g) (rw (f, _||_) at h)
+    by false false e f = both-and (clean a) (clean b) (rw (e, _||_) at g) (rw (f, _||_) at h)
 
 module _ (r : ℕ → ℕ → G) (hr : (i k : ℕ) → good (r i k) ≡ true) where
   by-good : (g : G) (k : ℕ) → clean g ≡ true → good (leftBy r g k) ≡ true
@@ -128,14 +127,14 @@ module _ (r : ℕ → ℕ → G) (hr : (i k : ℕ) → good (r i k) ≡ true) wh
       tok-by true = refl
       tok-by false = refl
   by-good (seq a b) k e =
-      let p = both (clean a) (clean b) e in
+      let p = and-both (clean a) (clean b) e in
       seq-by (nullable a) _ _ (after-good (leftBy r a k) b (by-good a k (p .0)) (p .1)) (by-good b k (p .1))
     where
       seq-by : (n : Bool) (x y : G) → good x ≡ true → good y ≡ true → good (seqBy n x y) ≡ true
       seq-by true x y p q = or-good x y p q
       seq-by false x y p q = p
   by-good (alt a b) k e =
-      let p = both (clean a) (clean b) e in
+      let p = and-both (clean a) (clean b) e in
       or-good (leftBy r a k) (leftBy r b k) (by-good a k (p .0)) (by-good b k (p .1))
   by-good (star a) k e = after-good (leftBy r a k) (star a) (by-good a k e) e
   by-good (nt i) k e = hr i k
@@ -146,10 +145,10 @@ rule-good i = each-rule good refl refl i
 
 in-good : (n : ℕ) (g : G) (k : ℕ) → good g ≡ true → good (leftIn n g k) ≡ true
 unfolding leftIn leftBy good isNone
-in-good zero g k e = ⊎-elim (λ z. rw (is-none g z)) (λ c. by-good (λ i j. none) (λ i j. refl) g k c) (either (isNone g) (clean g) e)
+in-good zero g k e = or-cases (isNone g) (clean g) e (λ z. rw (is-none g z)) (λ c. by-good (λ i j. none) (λ i j. refl) g k c)
 in-good (suc n) g k e =
-    ⊎-elim (λ z. rw (is-none g z))
-    (λ c. by-good (λ i j. leftIn n (rule i) j) (λ i j. in-good n (rule i) j (rule-good i)) g k c) (either (isNone g) (clean g) e)
+    or-cases (isNone g) (clean g) e (λ z. rw (is-none g z))
+    (λ c. by-good (λ i j. leftIn n (rule i) j) (λ i j. in-good n (rule i) j (rule-good i)) g k c)
 
 lefts-good : (g : G) (ks : List ℕ) → good g ≡ true → good (lefts g ks) ≡ true
 unfolding lefts left

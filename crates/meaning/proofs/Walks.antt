@@ -1,4 +1,4 @@
--- In a text of the grammar every word is proper (`walks`; the test is in proofs/Seats.antt).
+-- In a text of the grammar every word is proper (`walks`; the test is in Seats).
 -- `Goes S g T` says that a text of g, read from a seat of S, is proper and ends in a seat of T; by the shape of g it is found by
 -- computation (`run`). The statements of the sections lead from the seats between statements to these, and an expression from its
 -- seats to these: so a rule of theirs is gone into once (`kept`).
@@ -14,7 +14,7 @@ use Rattle.meaning.specs.Plain.{if_then_else_, xor, any, every, joined, 
 use Rattle.meaning.specs.Keywords.{spelt, marks, keywords, kClass, kCommon, kIf, kConstrain}
 use Rattle.meaning.specs.Grammar.{G, none, eps, tok, seq, alt, star, nt, policy, rule, rules, In, in-eps, in-tok, in-seq, in-left, in-right, in-stop, in-more, in-rule}
 use Rattle.meaning.specs.Statements.{Seen, outside, step, stepE, stepS, behind, compared, pTest, pBehind}
-use Rattle.meaning.proofs.Lists.{and-both, bool-cases, Among, here, there, any-among, among-upTo}
+use Rattle.meaning.proofs.Lists.{and-both, if-both, bool-cases, none-among, Among, here, there, any-among, among-upTo}
 use Rattle.meaning.proofs.Seats.{Seat, seat, begunIf, nexts, next-seat, proper, Walks}
 
 -- ---- sets of seats
@@ -47,13 +47,9 @@ is-of : (T : List Seat) (a : Seat) → isOf T a ≡ true → Among a T
 unfolding isOf
 is-of T a e = let r = any-among (sameSeat a) T e in subst (λ b. Among b T) (sym (same-seat a (r .0) (r .2))) (r .1)
 
-first-and-rest : (a b : Bool) → (if a then b else false) ≡ true → (a ≡ true) × (b ≡ true)
-first-and-rest true b e = (refl, e)
-first-and-rest false b e = absurd (false≢true e)
-
 every-among : {A : Type 0} (p : A → Bool) {x : A} {l : List A} → every p l ≡ true → Among x l → p x ≡ true
-every-among p e (here {x = y} {xs = l} h) = ap p h ∙ first-and-rest (p y) (every p l) e .0
-every-among p e (there {x = y} {xs = l} m) = every-among p (first-and-rest (p y) (every p l) e .1) m
+every-among p e (here {x = y} {xs = l} h) = ap p h ∙ if-both (p y) (every p l) e .0
+every-among p e (there {x = y} {xs = l} m) = every-among p (if-both (p y) (every p l) e .1) m
 
 abbrev Within : List Seat → List Seat → Type 0
 Within S T = (a : Seat) → Among a S → Among a T
@@ -204,10 +200,7 @@ kept i m =
     let r = run 2 (rule i) (loop i) in
     let p = and-both (r .fine) (areOf (loop i) (r .out)) (every-among keeps all-keep (among-upTo 11 i (ltb-true i 11 e))) in
     (r .out, run-goes 2 (rule i) (loop i) (p .0), are-of (r .out) (loop i) (p .1)))
-    (λ e. none (rw (List·getD-eq-default loops [] {n = i} (ltb-false i 11 e)) at m))
-  where
-    none : {P : Type 0} {a : Seat} → Among a [] → P
-    none m = elim m [ ]
+    (λ e. none-among (rw (List·getD-eq-default loops [] {n = i} (ltb-false i 11 e)) at m))
 
 -- ---- the theorem
 sound : {g : G} {S T : List Seat} {u : List ℕ} → In g u → Goes S g T → (f : Bool) (st : Seen) → Among (seat f st) S → (v : List ℕ)
