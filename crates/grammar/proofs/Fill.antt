@@ -11,7 +11,8 @@ use lib.Dec.{eqb, ltb}
 use Rattle.meaning.specs.Plain.{if_then_else_}
 use Rattle.meaning.specs.Keywords.{spelt, marks, keywords}
 use Rattle.meaning.specs.Grammar.{G, none, eps, tok, seq, alt, star, nt, _·_, nullable, isNone, or, leftBy, leftIn, left, rule, rules}
-use Rattle.meaning.proofs.Texts.{both, each-rule, orBy}
+use Rattle.meaning.proofs.Lists.{and-both}
+use Rattle.meaning.proofs.Texts.{each-rule, orBy}
 use Rattle.meaning.proofs.Left.{seqBy, tokBy}
 use Rattle.grammar.specs.Table.{holeRule, kindCount}
 use Rattle.grammar.specs.States.{fill}
@@ -132,13 +133,13 @@ module _ (k : ℕ) (high : kindCount ≤ k) where
   by-beyond r h eps e = refl
   by-beyond r h (tok j) e = ap tokBy (ne-eqb j k (λ z. let l = ltb-true j kindCount e in omega arith))
   by-beyond r h (seq a b) e =
-      let p = both (known a) (known b) e in
+      let p = and-both (known a) (known b) e in
       by (nullable a) (leftBy r a k) (leftBy r b k) (by-beyond r h a (p .0)) (by-beyond r h b (p .1))
     where
       by : (n : Bool) (x y : G) → x ≡ none → y ≡ none → seqBy n (x · b) y ≡ none
       by true x y e f = rw (e, f)
       by false x y e f = rw e
-  by-beyond r h (alt a b) e = let p = both (known a) (known b) e in ap₂ or (by-beyond r h a (p .0)) (by-beyond r h b (p .1))
+  by-beyond r h (alt a b) e = let p = and-both (known a) (known b) e in ap₂ or (by-beyond r h a (p .0)) (by-beyond r h b (p .1))
   by-beyond r h (star a) e = ap (_· star a) (by-beyond r h a e)
   by-beyond r h (nt i) e = h i
 

@@ -14,7 +14,7 @@ use Rattle.meaning.specs.Plain.{if_then_else_}
 use Rattle.meaning.specs.Keywords.{kLparen, kRparen}
 use Rattle.meaning.specs.Grammar.{G, G-discrete, none, nullable, isNone, left}
 use Rattle.meaning.proofs.Opened.{opened}
-use Rattle.meaning.proofs.Texts.{both}
+use Rattle.meaning.proofs.Lists.{and-both}
 use Rattle.meaning.proofs.Viable.{lefts}
 use Rattle.grammar.specs.Table.{hole, stateCount, kindCount, tableSize, lastInside, had, accepting, rows}
 use Rattle.grammar.specs.States.{fill, wayFrom, grown, states, leftAt, edgesOf, edges, entries, nextTable, next, after, regex}
@@ -73,11 +73,11 @@ go-on = refl
 module _ (s : ℕ) (h : s ≤ lastInside) where
   pub had-at : isNone (leftAt (had s)) ≡ false
   unfolding goesOn
-  had-at = not-true _ (both (not (isNone (leftAt (had s)))) _ (each-within goesOn go-on s h) .0)
+  had-at = not-true _ (and-both (not (isNone (leftAt (had s)))) _ (each-within goesOn go-on s h) .0)
 
   pub last-at : isNone (leftAt (next (had s) kRparen)) ≡ false
   unfolding goesOn
-  last-at = not-true _ (both (not (isNone (leftAt (had s)))) _ (each-within goesOn go-on s h) .1)
+  last-at = not-true _ (and-both (not (isNone (leftAt (had s)))) _ (each-within goesOn go-on s h) .1)
 
 -- ---- the entries
 -- what has to be left where a word of kind k leads to state x: from within parentheses, h being the state behind an operand
@@ -173,5 +173,5 @@ module _ (s k : ℕ) (hk : k < kindCount) where
       close-leads l =
           let t : closes s (next s k) ≡ true =
           rw (le-leb s lastInside i, ne-eqb k kLparen e, lt-leb (next s k) lastInside l) at turned in
-          let p = both (eqb s (had s)) (eqb (next s k) (next (had s) kRparen)) t in
+          let p = and-both (eqb s (had s)) (eqb (next s k) (next (had s) kRparen)) t in
           (eqb-true s (had s) (p .0), eqb-true (next s k) (next (had s) kRparen) (p .1))

@@ -6,7 +6,6 @@ use Prim.Native.Nat.{ℕ, suc, _+_, _-_, _≤_, _<_}
 use native.Mathlib.Omega.{arith}
 use native.Mathlib.Numerals.{add-one}
 use mathlib.Core.Path.{_≡_, refl, sym, _∙_, ap}
-use mathlib.Core.Logic.{⊎-elim}
 use mathlib.Core.Bool.{true, _||_}
 use mathlib.Core.List.{List}
 use borrow.Author.Tests.{leb-true, eqb-true}
@@ -15,7 +14,7 @@ use Rattle.meaning.specs.Keywords.{kLparen}
 use Rattle.meaning.specs.Grammar.{none, left}
 use Rattle.meaning.proofs.Opened.{opened}
 use Rattle.meaning.proofs.Viable.{lefts}
-use Rattle.meaning.proofs.Texts.{both, either}
+use Rattle.meaning.proofs.Lists.{and-both, or-cases}
 use Rattle.grammar.specs.Table.{stateCount, kindCount, lastInside, had, rows}
 use Rattle.grammar.specs.States.{fill, wayFrom, grown, states, leftAt, nextTable, entry, next, after, regex, Stepped}
 use Rattle.grammar.proofs.Fill.{fill-fill, left-fill, left-beyond}
@@ -38,10 +37,10 @@ left-within s d k i = rw (regex-in s d i) (left-fill (after (had s) d) (live s d
 stays-regex : (s x d : ℕ) → stays s x ≡ true → fill (after (had s) d) (leftAt x) ≡ regex x d
 unfolding stays fill
 stays-regex s x d t =
-    let p = both (leb x lastInside) (eqb x 0 || eqb (had x) (had s)) t in
-    ⊎-elim (λ z. rw (eqb-true x 0 z) (ap (fill (after (had s) d)) dead ∙ sym (regex-dead d)))
+    let p = and-both (leb x lastInside) (eqb x 0 || eqb (had x) (had s)) t in
+    or-cases (eqb x 0) (eqb (had x) (had s)) (p .1)
+    (λ z. rw (eqb-true x 0 z) (ap (fill (after (had s) d)) dead ∙ sym (regex-dead d)))
     (λ e. rw (← eqb-true (had x) (had s) e) (sym (regex-in x d (leb-true x lastInside (p .0)))))
-    (either (eqb x 0) (eqb (had x) (had s)) (p .1))
 
 -- no word has so high a kind
 pub step-beyond : (s d k : ℕ) → s < stateCount → kindCount ≤ k → Stepped s d k 0 0
