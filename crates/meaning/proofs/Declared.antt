@@ -1,5 +1,5 @@
 -- Where declarations come from: an alias that is declared is one of the aliases (`alias-among`), the type of a `type` is declared
--- (`type-found`), and the names declared as one of the other kinds are just those at the first position of one form (`at-first`).
+-- (`type-found`), and the names declared as one kind, aliases apart, are just those at the first position of one form (`at-first`).
 -- What a name declares is looked up in a table by the statement's form and the position (`entries`), so of what is declared as d the
 -- entry of d tells form and position.
 -- Assumes nothing.
