@@ -17,6 +17,7 @@ for page in pages:
     if items:
         uses.append(f'use Rattle.meaning.specs.{page}.{{{", ".join(items)}}}')
 text = '\n'.join(['-- A name that opens every definition: a proof by computation says `unfolding opened`. Written by tools/opened.py.',
+                  '-- Assumes nothing.',
                   'use Prim.Native.Nat.{ℕ}', *uses, '', 'unfoldable pub opened : ℕ', 'unfolding ' + ' '.join(opened), 'opened = 0', ''])
 if '--check' in sys.argv:
     if open(OUT).read() != text:

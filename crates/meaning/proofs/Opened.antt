@@ -1,4 +1,5 @@
 -- A name that opens every definition: a proof by computation says `unfolding opened`. Written by tools/opened.py.
+-- Assumes nothing.
 use Prim.Native.Nat.{ℕ}
 use Rattle.meaning.specs.Keywords.{bytes, marks, keywords, kindFrom, markOf, kindOf, spelt}
 use Rattle.meaning.specs.Words.{isBlank, isLetter, inName, scanStep, scanTo, markHere, wordHere, wordFrom, wordAt, wordsFrom, wordsOf}
