@@ -3,6 +3,7 @@
 --   refusal-long, refusal-read    the answer for a text that is too long, and for one that is not
 --   accepted-is                   a text is accepted exactly if it is not too long and its reading fits
 --   refused-load                  a refusal is the load's, with its place
+--   one-answer                    two answers that meet the contract of `recognise` are equal
 -- By cases: the text's length, then what its reading comes to.
 -- Assumes nothing.
 use Prim.Native.Nat.{ℕ, _≤_, _<_}
@@ -72,3 +73,7 @@ refused-load s = by (ltb textSize (length s))
         (if b then record { number = longText; place = 0 } else ofVerdict (readOf s))
     by true n = (refl, refl)
     by false n = agrees-read (readOf s) (wordsOf s) n
+
+-- ---- one answer
+pub one-answer : (s : List ℕ) (r r′ : Refusal) → r ≡ refusalOf s → r′ ≡ refusalOf s → r ≡ r′
+one-answer s r r′ p q = p ∙ sym q
