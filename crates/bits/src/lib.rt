@@ -1,5 +1,7 @@
 // Sets of numbers in lent words: number i is bit i % 32 of word i / 32. Nothing here is refused: what a call needs of lengths and
 // ranges stands in its `requires`.
+#![tactic(auto)]
+
 ghost use Rattle.std.specs.Prelude.{◌≡◌, ◌-◌, ◌*◌, ◌^◌, ◌<◌, ◌≤◌, min, length};
 ghost use mathlib.Core.List.{zip_with};
 ghost use Rattle.std.specs.Int.Bits.{bit_or};

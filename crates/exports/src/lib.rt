@@ -1,4 +1,6 @@
 // What tests and benchmarks outside the proof call from C or Rust. Each function is one call of a proved one.
+#![tactic(auto)]
+
 ghost use Rattle.std.specs.Prelude.{◌≡◌, length};
 ghost use Rattle.meaning.specs.Words.{words_of};
 ghost use Rattle.recogniser.specs.Refusal.{refusal_of};

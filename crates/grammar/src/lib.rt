@@ -1,6 +1,8 @@
 // The recogniser of the policy grammar (meaning/specs/Grammar.antt): a table of states and a count of open parentheses.
 // What is left of the grammar behind the words so far is `regex` of the state and the count. Nothing is left just in state 0: no
 // text of the grammar begins with these words, which is refusal 3.
+#![tactic(auto)]
+
 ghost use Rattle.std.specs.Prelude.{◌≡◌, ◌+◌, ◌<◌, ◌^◌};
 ghost use Rattle.meaning.specs.Grammar.{policy, nullable};
 ghost use Rattle.grammar.specs.Table.{state_count};

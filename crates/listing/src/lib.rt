@@ -1,5 +1,7 @@
 // The statements of a text and their items, listed in one pass as rows of numbers in two lent arrays. Every later pass goes through
 // the rows by number, and none reads words. Nothing is refused here: a text of any bytes has its statements.
+#![tactic(auto)]
+
 ghost use Rattle.std.specs.Prelude.{◌≡◌, ◌≤◌, ◌*◌, length};
 ghost use Rattle.words.specs.Keys.{key_table};
 ghost use Rattle.listing.specs.Listed.{most};

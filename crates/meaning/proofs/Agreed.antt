@@ -47,16 +47,17 @@ none_of : {A : Type 0} (p : A → Bool) {x : A} {l : List A} → any p l ≡ fal
 none_of p {x = x} e m = bool_cases (p x) (λ q. absurd (false≢true (sym e ∙ among-any p m q))) (λ q. q)
 
 module _ {A : Type 0} (clash : A → A → Bool) (place : A → ℕ) where
-  not-before : {before : List A} {l : List A} {a b : A} → first_against (with_any clash) place before l ≡ nowhere
+  not-before : {a : A} {before l : List A} {b : A} → first_against (with_any clash) place before l ≡ nowhere
       → Among a l → Among b before → clash a b ≡ false
   unfolding with_any
   not-before {before = before} {b = b} e (here {x = x} {xs = l} q) k =
       ap (λ y. clash y b) q ∙ none_of (clash x) (clear_step (with_any clash) place before x l e).0 k
   not-before {before = before} e (there {x = x} {xs = l} m) k =
-      not-before (clear_step (with_any clash) place before x l e).1 m (there k)
+      not-before {before = x ∷ before} (clear_step (with_any clash) place before x l e).1 m (there k)
 
   any-two : (P : A → A → Type 0) → ((a b : A) → clash a b ≡ false → P a b) → ((a b : A) → P a b → P b a) → ((a : A) → P a a)
       → (before l : List A) → first_against (with_any clash) place before l ≡ nowhere → (a b : A) → Among a l → Among b l → P a b
+  any-two P free turned self before [] e a b m _ = elim m [ ]
   any-two P free turned self before (x ∷ l) e a b (here p) (here q) = subst (P a) (p ∙ sym q) (self a)
   any-two P free turned self before (x ∷ l) e a b (here p) (there k) =
       turned b a (free b a (not-before (clear_step (with_any clash) place before x l e).1 k (here p)))

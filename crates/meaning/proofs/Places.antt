@@ -33,6 +33,7 @@ module _ {A : Type 0} (place : A → ℕ) where
   rises-right m (x ∷ l) k r = let a : m ≤ place x = r.0 in rises-from (place x + 1) m k (omega arith) (rises-right (place x + 1) l k r.1)
 
   rises-behind : (m : ℕ) (l : List A) → Rises place m l → {x : A} → Among x l → m ≤ place x
+  rises-behind m [] r k = elim k [ ]
   rises-behind m (y ∷ l) r (here e) = let a : m ≤ place y = r.0 in omega (arith, ap place e)
   rises-behind m (y ∷ l) r {x = x} (there k) =
       let a : m ≤ place y = r.0 in

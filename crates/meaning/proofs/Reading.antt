@@ -172,7 +172,7 @@ pub record Exceeded (p : ℕ) (ws : List Word) : Type 0 where
   pub over : exceeds (seen_by outside before) word (counted (seen_by outside before) word.kind (counts_by outside no_counts before)) ≡ true
   pub place : p ≡ place_of (seen_by outside before) word (last_by 0 before)
 
-exceeded : {end p : ℕ} (before : List Word) {behind : List Word} → sized outside no_counts before ≡ true
+exceeded : {end : ℕ} (before : List Word) {p : ℕ} {behind : List Word} → sized outside no_counts before ≡ true
     → StopBehind before end (oversize p) behind → Exceeded p (before ++ behind)
 exceeded before s (large {w = w} {ws = ws} n f) =
     let m : is_none (lefts policy (kinds (before ++ (w ∷ [])))) ≡ false = ap is_none (lefts-on policy before w) ∙ n in

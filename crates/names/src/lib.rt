@@ -1,6 +1,8 @@
 // The names of a text by numbers: each gets the number of the first row with the same name, so that whoever comes later compares numbers
 // and no bytes. A row is four entries of `items`, of which the first two count here: the place of the name's first byte and how many
 // bytes it has. A name that would go past the text's end stops there. Nothing is refused: what a call needs stands in its `requires`.
+#![tactic(auto)]
+
 ghost use Rattle.std.specs.Prelude.{◌≡◌, ◌++◌, ◌+◌, ◌*◌, ◌<◌, ◌≤◌, min, length, get_or, drop, replicate};
 ghost use Rattle.meaning.specs.Plain.{same_bytes};
 ghost use Rattle.names.specs.Names.{bytes_at, first_as, firsts};

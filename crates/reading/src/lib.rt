@@ -1,5 +1,7 @@
 // The reading of a text, word by word: which position a word has in its statement, and which sizes it counts for. A word is
 // given by its kind. Every function is total but `sizes::count`, which asks that the counts are those of a text.
+#![tactic(auto)]
+
 pub mod kinds; // kinds.rt: the kinds of words
 pub mod positions; // positions.rt: the positions in a statement
 pub mod step; // step.rt: the reading of a statement from word to word

@@ -1,5 +1,7 @@
 // Runs the recogniser over the texts of the file `cases`, and writes a line for each: the number and the place.
 // In the file each text stands behind its length: five decimal digits and an LF. What is no such number ends the run.
+#![tactic(auto)]
+
 ghost use Rattle.std.specs.Prelude.{◌≤◌, ◌<◌, length};
 
 use libc::STDOUT_FILENO;

@@ -1,5 +1,7 @@
 // The recogniser: for any bytes, whether they are a text of the grammar within its sizes, or the refusal 2, 3 or 7 and its place.
 // The text is read once, word by word, by the table of states, the position in the statement and the counts.
+#![tactic(auto)]
+
 ghost use Rattle.std.specs.Prelude.{◌≡◌, List, [], ℕ, ◌+◌, ◌≤◌, ◌<◌, ◌^◌, length};
 ghost use Rattle.meaning.specs.Words.{Word, words_of};
 ghost use Rattle.meaning.specs.Load.{text_size};

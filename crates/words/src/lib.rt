@@ -1,5 +1,7 @@
 // The words of a policy text, each with its kind and its place. Any bytes are words: a byte that begins none is one of
 // kind BAD, and behind the last word stands one of kind END. Nothing is refused here.
+#![tactic(auto)]
+
 ghost use Rattle.std.specs.Prelude.{◌≡◌, length};
 ghost use Rattle.meaning.specs.Words.{word_at, words_of};
 ghost use Rattle.words.specs.Spans.{span_of, Placed};
