@@ -10,7 +10,7 @@ pub mod sizes; // sizes.rt: what a word counts for, and whether it goes past a s
 
 // The reading of a statement: its keyword (0 outside one), the position, what the next name stands behind, whether a braced list
 // is open, the open parentheses of an expression.
-#[derive(Drop)]
+#[derive(Clone, Copy)]
 pub struct Seen {
     pub kw: u8,
     pub pos: u8,
