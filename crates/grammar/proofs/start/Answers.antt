@@ -2,11 +2,7 @@
 use mathlib.Core.Path.{refl}
 use native.Mathlib.Omega.{arith}
 use Rattle.grammar.proofs.Laws.{start}
-use Rattle.grammar.proofs.start.Statement.{statement}
-use Rattle.grammar.proofs.start.Tie as tie
+use Rattle.grammar.proofs.start.Goals as goal
 
-returns : tie.Need-returns
+pub returns : goal.returns
 returns c = (start, omega arith, refl)
-
-pub start_spec : {M : Type 1} → statement M
-start_spec = tie.close (tie.spec returns)

@@ -1,0 +1,10 @@
+-- `grammar::accepting` tells the two states where a text may end: by the law `accepts`. Assumes nothing.
+use borrow.Author.Tests.{ne_eqb}
+use Rattle.grammar.proofs.Laws.{accepts}
+use Rattle.grammar.proofs.accepting.Goals as goal
+
+pub returns-then-s-eq-AFTER_USER : goal.returns-then-s-eq-AFTER_USER
+returns-then-s-eq-AFTER_USER c = rw (accepts _ c.args.st.depth c.requires, c.if-s-eq-AFTER_USER.true)
+
+pub returns : goal.returns
+returns c = rw (accepts _ c.args.st.depth c.requires, ne_eqb _ _ c.if-s-eq-AFTER_USER.false)
