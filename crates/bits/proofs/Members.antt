@@ -16,7 +16,7 @@ use lib.Bits.{bit_or}
 use lib.Dec.{eqb, eqb-zero-suc, eqb-suc-zero, eqb-suc-suc}
 use lib.ListN.{length, get_or, set, length-set, get_or-eq_default}
 use lib.Seq.{ext_get_or, get_or-set_same, get_or-set_other}
-use Rattle.meaning.specs.Plain.{if◌then◌else◌, every, numbers, up_to}
+use Rattle.meaning.specs.Plain.{every, numbers, up_to}
 use Rattle.meaning.specs.Policy.{Set, holds}
 use Rattle.meaning.specs.Access.{bit_of}
 use Rattle.meaning.proofs.Lists.{same_test, length-each, get_or-each, if-both}
