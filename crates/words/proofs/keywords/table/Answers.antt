@@ -2,12 +2,8 @@
 use mathlib.Core.Path.{refl}
 use Rattle.meaning.specs.Keywords.{bytes, keywords}
 use Rattle.words.specs.Keys.{keyword, slot_of, key_entry, key_table}
-use Rattle.words.proofs.keywords.table.Statement.{statement}
-use Rattle.words.proofs.keywords.table.Tie as tie
+use Rattle.words.proofs.keywords.table.Goals as goal
 
-returns : tie.Need-returns
+pub returns : goal.returns
 unfolding key_table key_entry keyword slot_of keywords bytes
 returns c = refl
-
-pub table-spec : {M : Type 1} → statement M
-table-spec = tie.close (tie.spec returns)

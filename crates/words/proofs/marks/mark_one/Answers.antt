@@ -2,61 +2,60 @@
 -- tests fails. Assumes nothing.
 use Rattle.meaning.specs.Keywords.{bytes, marks, kind_from, mark_of}
 use Rattle.words.proofs.Marked.{if-same, other}
-use Rattle.words.proofs.marks.mark_one.Statement.{statement}
-use Rattle.words.proofs.marks.mark_one.Tie as tie
+use Rattle.words.proofs.marks.mark_one.Goals as goal
 
-returns : tie.Need-returns
+pub returns-in-123 : goal.returns-in-123
 unfolding mark_of kind_from marks bytes
-returns c = rw c.match.keys1
+returns-in-123 c = rw c.in-123.is
 
-returns-2 : tie.Need-returns-2
+pub returns-in-125 : goal.returns-in-125
 unfolding mark_of kind_from marks bytes
-returns-2 c = rw c.match.keys2
+returns-in-125 c = rw c.in-125.is
 
-returns-3 : tie.Need-returns-3
+pub returns-in-40 : goal.returns-in-40
 unfolding mark_of kind_from marks bytes
-returns-3 c = rw c.match.keys3
+returns-in-40 c = rw c.in-40.is
 
-returns-4 : tie.Need-returns-4
+pub returns-in-41 : goal.returns-in-41
 unfolding mark_of kind_from marks bytes
-returns-4 c = rw c.match.keys4
+returns-in-41 c = rw c.in-41.is
 
-returns-5 : tie.Need-returns-5
+pub returns-in-59 : goal.returns-in-59
 unfolding mark_of kind_from marks bytes
-returns-5 c = rw c.match.keys5
+returns-in-59 c = rw c.in-59.is
 
-returns-6 : tie.Need-returns-6
+pub returns-in-58 : goal.returns-in-58
 unfolding mark_of kind_from marks bytes
-returns-6 c = rw c.match.keys6
+returns-in-58 c = rw c.in-58.is
 
-returns-7 : tie.Need-returns-7
+pub returns-in-44 : goal.returns-in-44
 unfolding mark_of kind_from marks bytes
-returns-7 c = rw c.match.keys7
+returns-in-44 c = rw c.in-44.is
 
-returns-8 : tie.Need-returns-8
+pub returns-in-126 : goal.returns-in-126
 unfolding mark_of kind_from marks bytes
-returns-8 c = rw c.match.keys8
+returns-in-126 c = rw c.in-126.is
 
-returns-9 : tie.Need-returns-9
+pub returns-in-42 : goal.returns-in-42
 unfolding mark_of kind_from marks bytes
-returns-9 c = rw c.match.keys9
+returns-in-42 c = rw c.in-42.is
 
-returns-10 : tie.Need-returns-10
+pub returns-in-45 : goal.returns-in-45
 unfolding mark_of kind_from marks bytes
-returns-10 c = rw c.match.keys10
+returns-in-45 c = rw c.in-45.is
 
-returns-11 : tie.Need-returns-11
+pub returns-in-94 : goal.returns-in-94
 unfolding mark_of kind_from marks bytes
-returns-11 c = rw c.match.keys11
+returns-in-94 c = rw c.in-94.is
 
-returns-12 : tie.Need-returns-12
+pub returns-in-33 : goal.returns-in-33
 unfolding mark_of kind_from marks bytes
-returns-12 c = rw c.match.keys12
+returns-in-33 c = rw c.in-33.is
 
-returns-13 : tie.Need-returns-13
+pub returns-in_default : goal.returns-in_default
 unfolding mark_of kind_from marks bytes
-returns-13 c =
-    let n = c.match.rest in
+returns-in_default c =
+    let n = c.in_default.in_default-own.rest in
     simp (
       if-same,
       other _ _ n.0.0.0.0.0.0.0.0.0.0.0.1,
@@ -72,21 +71,3 @@ returns-13 c =
       other _ _ n.0.1,
       other _ _ n.1,
     )
-
-pub mark-one-spec : {M : Type 1} → statement M
-mark-one-spec =
-    tie.close
-    (tie.spec
-    returns
-    returns-2
-    returns-3
-    returns-4
-    returns-5
-    returns-6
-    returns-7
-    returns-8
-    returns-9
-    returns-10
-    returns-11
-    returns-12
-    returns-13)
