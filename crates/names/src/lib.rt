@@ -93,8 +93,8 @@ fn slot(word: &[u8]) -> usize
 
 // The first row whose name reads as that of row i, which is `word`: it is looked for along the chain that row i's link leads to.
 fn find(text: &[u8], items: &[u16], nexts: &[u16], i: usize, word: &[u8]) -> usize
-    requires i_in_bounds { (4 * i + 1 < length items.now) × (i < length nexts.now) }
-    requires word_value { (word.now ≡ bytes_at text.now items.now i) × Nexts text.now items.now (i + 1) nexts.now }
+    requires room { (4 * i + 1 < length items.now) × (i < length nexts.now) }
+    requires chained { (word.now ≡ bytes_at text.now items.now i) × Nexts text.now items.now (i + 1) nexts.now }
     ensures { result ≡ first_as text.now items.now i }
 {
     let mut x = entry(nexts[i]);
@@ -109,8 +109,8 @@ fn find(text: &[u8], items: &[u16], nexts: &[u16], i: usize, word: &[u8]) -> usi
 
 // The number of row i, of which all rows before are done. A name that is new is hung into the chain of its slot.
 fn place(text: &[u8], items: &[u16], i: usize, heads: &mut [u16; SLOTS], nexts: &mut [u16]) -> u16
-    requires i_bound { (i < 32768) × (4 * i + 1 < length items.now) × (i < length nexts.old) }
-    requires heads_2 { Heads text.now items.now i heads.old × Nexts text.now items.now i nexts.old }
+    requires room { (i < 32768) × (4 * i + 1 < length items.now) × (i < length nexts.old) }
+    requires chained { Heads text.now items.now i heads.old × Nexts text.now items.now i nexts.old }
     ensures value { result ≡ first_as text.now items.now i }
     ensures heads { Heads text.now items.now (i + 1) heads.new }
     ensures nexts { Nexts text.now items.now (i + 1) nexts.new }
@@ -137,8 +137,8 @@ pub fn first_places(
     heads: &mut [u16; SLOTS],
     nexts: &mut [u16],
 )
-    requires n_bound { (n ≤ 32768) × (4 * n ≤ length items.now) × (n ≤ length ids.old) × (n ≤ length nexts.old) }
-    requires heads_value { heads.old ≡ replicate slots 0 }
+    requires room { (n ≤ 32768) × (4 * n ≤ length items.now) × (n ≤ length ids.old) × (n ≤ length nexts.old) }
+    requires empty { heads.old ≡ replicate slots 0 }
     ensures { ids.new ≡ firsts text.now items.now n ++ drop n ids.old }
 {
     let mut i = 0;
