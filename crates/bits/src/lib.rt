@@ -66,8 +66,8 @@ pub fn lowest_bit(w: u32) -> usize
 
 // The lowest number in both sets; 32 for each word where there is none.
 pub fn lowest_common(a: &[u32], b: &[u32]) -> usize
-    requires a_len { length a.now ≡ length b.now }
-    requires a_bound { 32 * length a.now < 2 ^ 64 }
+    requires same_length { length a.now ≡ length b.now }
+    requires small { 32 * length a.now < 2 ^ 64 }
     ensures { result ≡ lowest_common a.now b.now }
 {
     let mut i = 0;
@@ -83,8 +83,8 @@ pub fn lowest_common(a: &[u32], b: &[u32]) -> usize
 
 // Whether some number is in both sets.
 pub fn meets(a: &[u32], b: &[u32]) -> bool
-    requires a_len { length a.now ≡ length b.now }
-    requires a_bound { 32 * length a.now < 2 ^ 64 }
+    requires same_length { length a.now ≡ length b.now }
+    requires small { 32 * length a.now < 2 ^ 64 }
     ensures { result ≡ meets a.now b.now }
 {
     lowest_common(a, b) < 32 * a.len()

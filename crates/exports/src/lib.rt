@@ -7,7 +7,7 @@ ghost use Rattle.recogniser.specs.Refusal.{refusal_of};
 
 // A refusal number and a place.
 #[repr(C)]
-#[derive(Drop)]
+#[derive(Clone, Copy)]
 pub struct Answer {
     pub number: u32,
     pub place: usize,

@@ -13,7 +13,7 @@ pub mod table; // the states, written by tools/states.py
 use table::{Edges, Next};
 
 // A state of the table, and how many more parentheses are open where it stands within those of an expression.
-#[derive(Drop)]
+#[derive(Clone, Copy)]
 pub struct State {
     pub s: u8,
     pub depth: usize,

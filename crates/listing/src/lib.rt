@@ -21,14 +21,14 @@ pub const MOST: usize = 32768;
 pub const ROOM: usize = row::WIDTH * MOST;
 
 // How many statements and items stand in the rows.
-#[derive(Drop)]
+#[derive(Clone, Copy)]
 pub struct Listed {
     pub statements: usize,
     pub items: usize,
 }
 
 // The rows so far, and whether the form of the last statement stands in its row.
-#[derive(Drop)]
+#[derive(Clone, Copy)]
 pub struct Rows {
     pub statements: usize,
     pub items: usize,
@@ -36,7 +36,7 @@ pub struct Rows {
 }
 
 // What is carried from word to word: the reading of a statement, the ifs begun, the number of the branch.
-#[derive(Drop)]
+#[derive(Clone, Copy)]
 pub struct Track {
     pub seen: Seen,
     pub ifs: usize,

@@ -22,7 +22,7 @@ pub fn put_row(l: &mut [u16], i: usize, a: u16, b: u16, c: u16, d: u16)
 }
 
 // An item as its row has it: its first byte, the place behind its last, its kind, what it stands behind, its position.
-#[derive(Drop)]
+#[derive(Clone, Copy)]
 pub struct ItemRow {
     pub start: usize,
     pub end: usize,
@@ -32,7 +32,7 @@ pub struct ItemRow {
 }
 
 // A statement as its row has it: its form, its place, the number of its branch, its first item and the one behind its last.
-#[derive(Drop)]
+#[derive(Clone, Copy)]
 pub struct StmtRow {
     pub form: u8,
     pub at: usize,

@@ -12,7 +12,7 @@ use words::Span;
 use words::keywords::SIZE;
 
 // A text and the place reached in it.
-#[derive(Drop)]
+#[derive(Clone, Copy)]
 pub struct WordReader<'a> {
     pub text: &'a [u8],
     pub at: usize,

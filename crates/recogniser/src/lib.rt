@@ -33,7 +33,7 @@ const OVER_SIZE: u32 = 7;
 const TEXT_SIZE: usize = 32768;
 
 // The answer: the number of a refusal and its place, or ACCEPTED.
-#[derive(Drop)]
+#[derive(Clone, Copy)]
 pub struct Refusal {
     pub number: u32,
     pub place: usize,
@@ -41,7 +41,7 @@ pub struct Refusal {
 
 // What is known behind the words so far: the state of the grammar, the position in the statement, what the statement has counted,
 // the place of the last word, and a refusal once there is one.
-#[derive(Drop)]
+#[derive(Clone, Copy)]
 struct Turn {
     state: State,
     seen: Seen,

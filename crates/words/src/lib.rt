@@ -20,7 +20,7 @@ pub const NAME: u8 = 1;
 pub const END: u8 = 56;
 
 // A word: its kind, the place of its first byte and the place behind its last.
-#[derive(Drop)]
+#[derive(Clone, Copy)]
 pub struct Span {
     pub kind: u8,
     pub start: usize,
