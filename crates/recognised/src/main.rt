@@ -2,26 +2,41 @@
 // In the file each text stands behind its length: five decimal digits and an LF. What is no such number ends the run.
 #![tactic(auto)]
 
-ghost use Rattle.std.specs.Prelude.{◌≤◌, ◌<◌, length};
+ghost use Rattle.std.specs.Prelude.{◌≤◌, ◌<◌, length, IfOk};
 
-use libc::STDOUT_FILENO;
+use std::fs::File;
+use std::io;
+use std::io::Read;
+use std::rt::Files;
 
 const ROOM: usize = 262144;
 
 // The digits before a text, with their LF.
 const HEAD: usize = 6;
 
-// The whole file, or nothing where it cannot be opened.
-fn read_cases(all: &mut [u8]) -> usize
+// The bytes that the reader gives, as many as there is room for; a read that fails ends them.
+fn read_full<R: Read>(reader: &mut R, all: &mut [u8]) -> usize
     ensures { result ≤ length all.old }
 {
-    let fd = os::open_read(b"cases");
-    if fd < 0 {
-        return 0;
+    let mut done = 0;
+    while done < all.len() {
+        let n = reader.read(&mut all[done..]).unwrap_or(0);
+        if n == 0 {
+            return done;
+        }
+        done += n;
     }
-    let n = io::read_full(fd, all);
-    libc::close(fd);
-    n
+    done
+}
+
+// The whole file, or nothing where it cannot be opened.
+fn read_cases(rt: &impl Files, all: &mut [u8]) -> usize
+    ensures { result ≤ length all.old }
+{
+    match File::open(rt, "cases") {
+        Ok(mut file) => read_full(&mut file, all),
+        Err(_) => 0,
+    }
 }
 
 // The digit that a byte stands for; 0 for any other byte.
@@ -50,47 +65,45 @@ fn number(head: &[u8]) -> usize
 }
 
 // One text, and its line.
-fn show(text: &[u8]) {
+fn show(rt: &impl Print, text: &[u8]) -> io::Result<()> {
     let r = recogniser::recognise(text);
-    io::print_decimal(STDOUT_FILENO, r.number as u64);
-    io::write_all(STDOUT_FILENO, b" ");
-    io::print_decimal(STDOUT_FILENO, r.place as u64);
-    io::write_all(STDOUT_FILENO, b"\n");
+    println!(rt; "{} {}", r.number, r.place)
 }
 
 // The first text of what is left, and how many bytes it took with its head; 0 where there is none.
-fn show_first(rest: &[u8]) -> usize
-    ensures { result ≤ length rest.now }
+fn show_first(rt: &impl Print, rest: &[u8]) -> io::Result<usize>
+    ensures { IfOk result (λ n. n ≤ length rest.now) }
 {
     if rest.len() < HEAD {
-        return 0;
+        return Ok(0);
     }
     let n = number(rest);
     if rest.len() - HEAD < n {
-        return 0;
+        return Ok(0);
     }
-    show(&rest[HEAD..HEAD + n]);
-    HEAD + n
+    show(rt, &rest[HEAD..HEAD + n])?;
+    Ok(HEAD + n)
 }
 
-fn run(all: &[u8]) {
+fn run(rt: &impl Print, all: &[u8]) -> io::Result<()> {
     let mut at = 0;
     while at < all.len() {
-        let n = show_first(&all[at..]);
+        let n = show_first(rt, &all[at..])?;
         if n == 0 {
-            return;
+            return Ok(());
         }
         at += n;
     }
+    Ok(())
 }
 
 // The file's texts; `all` is room for them.
-fn work(all: &mut [u8]) {
-    let n = read_cases(all);
-    run(&all[0..n]);
+fn work(rt: &(impl Files + Print), all: &mut [u8]) -> io::Result<()> {
+    let n = read_cases(rt, all);
+    run(rt, &all[0..n])
 }
 
-fn main() {
+fn main(rt: HostRuntime) -> io::Result<()> {
     let mut all = [0u8; ROOM];
-    work(&mut all);
+    work(&rt, &mut all)
 }
