@@ -14,7 +14,7 @@ for k, w in enumerate(words):
     b = w.encode()
     slot = (first * b[0] + middle * b[len(b) // 2] + b[-1]) % slots
     if table[slot] < k:
-        sys.exit(f'{w} and {words[table[slot]]} have one slot: choose other factors in slot_of and slotOf')
+        sys.exit(f'{w} and {words[table[slot]]} have one slot: choose other factors in slot_of of src/ and of specs/')
     table[slot] = k
 rows = lambda l, n: [''.join(f'\\x{x:02x}' for x in l[i:i + n]) for i in range(0, len(l), n)]
 lines = rows(table, 16) + rows([len(w) for w in words], 19) + [w.ljust(WIDTH) for w in words]

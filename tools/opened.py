@@ -10,12 +10,12 @@ uses, opened, seen = [], [], set()
 for page in pages:
     items = []
     for name in re.findall(r'^\s*unfoldable pub (\S+) :', open(SPECS + page + '.antt').read(), re.M):
-        own = name + '·' + page if name in seen else name
+        own = f'{name}-{page}' if name in seen else name
         seen.add(name)
         items.append(name if own == name else f'{name} as {own}')
         opened.append(own)
     if items:
-        uses.append(f'use Rattle·meaning·specs.specs.{page}.{{{", ".join(items)}}}')
+        uses.append(f'use Rattle.meaning.specs.{page}.{{{", ".join(items)}}}')
 text = '\n'.join(['-- A name that opens every definition: a proof by computation says `unfolding opened`. Written by tools/opened.py.',
                   '-- Assumes nothing.',
                   'use Prim.Native.Nat.{ℕ}', *uses, '', 'unfoldable pub opened : ℕ', 'unfolding ' + ' '.join(opened), 'opened = 0', ''])

@@ -15,7 +15,7 @@ import sys
 
 GRAMMAR, KEYWORDS = 'crates/meaning/specs/Grammar.antt', 'crates/meaning/specs/Keywords.antt'
 SPECS, CODE = 'crates/grammar/specs/Table.antt', 'crates/grammar/src/table.rt'
-EXPRESSIONS = ['boolE', 'constraintE']  # the rules that may stand in parentheses
+EXPRESSIONS = ['bool_e', 'constraint_e']  # the rules that may stand in parentheses
 
 
 def stop(why):
@@ -28,13 +28,13 @@ def found(pattern, text):
 
 # ---- the kinds of words: number by name, and by spelling
 keywords = open(KEYWORDS).read()
-KIND = {name: int(number) for name, number in re.findall(r'^(k[A-Z]\w*) = (\d+)$', keywords, re.M)}
+KIND = {name: int(number) for name, number in re.findall(r'^(k_\w+) = (\d+)$', keywords, re.M)}
 NAME = {number: name for name, number in KIND.items()}
 spellings = [s for part in ('marks', 'keywords') for s in re.findall(r'"(.+?)"', found(rf'^{part} =(.*?)\[\]', keywords)[1])]
-SPELT = {s: KIND['kOpen'] + i for i, s in enumerate(spellings)}
-KINDS = KIND['kEnd']  # the kinds below it are those of words
-if KINDS != KIND['kOpen'] + len(spellings):
-    stop('kEnd does not follow the last keyword')
+SPELT = {s: KIND['k_open'] + i for i, s in enumerate(spellings)}
+KINDS = KIND['k_end']  # the kinds below it are those of words
+if KINDS != KIND['k_open'] + len(spellings):
+    stop('k_end does not follow the last keyword')
 
 # ---- the grammar: tuples by the names of Grammar.antt, as ('seq', ('tok', 18), ('tok', 1))
 grammar = open(GRAMMAR).read()
@@ -55,7 +55,7 @@ def then(a, b):
 
 
 OPERATORS = [('∷', lambda a, b: [a] + b), ('/', lambda a, b: ('alt', a, b)), ('·', then)]  # the loosest first; each to the right
-found(r'^infixr 60 _·_\ninfixr 50 _/_$', grammar)
+found(r'^infixr 60 ◌·◌\ninfixr 50 ◌/◌$', grammar)
 
 
 def read(text, given):
@@ -101,7 +101,7 @@ def read(text, given):
 
 
 RULES = read('rules', {})
-DEEP = int(found(r'^left g k = leftIn (\d+) g k$', grammar)[1])
+DEEP = int(found(r'^left g k = left_in (\d+) g k$', grammar)[1])
 
 
 # ---- what is left of a grammar behind a word, as Grammar.antt says it
@@ -223,25 +223,24 @@ def row(s):
 
 rows = '\n'.join(map(row, range(len(states))))
 names = ', '.join(name for name, k in KIND.items() if re.search(rf'\b{name}\b', rows))
-entries = [f'    0x{s:02x}{k:02x}{to:02x},' for s, to_all in enumerate(edges) for k, to in to_all]
+edge_count = sum(map(len, edges))
+entries = [f'0x{s:02x}{k:02x}{to:02x},' for s, to_all in enumerate(edges) for k, to in to_all]
+entries = ['    ' + ' '.join(entries[i:i + 9]) for i in range(0, len(entries), 9)]
 FILES = {SPECS: f"""\
 -- The states of the recogniser, and where words lead. Written by tools/states.py from meaning's grammar.
 --
 --   {row(START + 1)[6:]}
 --       What is left in this state is what is left in state {START} behind a word of kind {NAME[edges[START][0][0]]}.
---       A word of the kind kName leads from here to state {edges[START + 1][0][1]}, any other to state 0, which is dead.
+--       A word of the kind k_name leads from here to state {edges[START + 1][0][1]}, any other to state 0, which is dead.
 --   {row(START)[6:]}
 --       What is left in this one is the whole grammar.
 --
 -- In a state within the parentheses of an expression what is left ends in a hole for what follows them, and the closing one leads to
 -- where it leads if no more of them are open.
-use Prim.Native.Nat.{{ℕ}}
-use mathlib.Core.Bool.{{Bool, _||_}}
-use mathlib.Core.List.{{List, [], _∷_}}
-use lib.Dec.{{eqb, ltb}}
-use Rattle·meaning.specs.Plain.{{if_then_else_}}
-use Rattle·meaning.specs.Grammar.{{G, none, nt, _·_, w, policy, {", ".join(EXPRESSIONS)}}}
-use Rattle·meaning.specs.Keywords.{{{names}}}
+use Rattle.std.specs.Prelude.{{ℕ, Bool, ◌||◌, List, [], ◌∷◌, eqb, ltb}}
+use Rattle.meaning.specs.Plain.{{if◌then◌else◌}}
+use Rattle.meaning.specs.Grammar.{{G, none, nt, ◌·◌, w, policy, {", ".join(EXPRESSIONS)}}}
+use Rattle.meaning.specs.Keywords.{{{names}}}
 
 pub data Way : Type 0 where
   fresh : G → Way
@@ -251,36 +250,36 @@ pub data Row : Type 0 where
   state : ℕ → Way → List (ℕ × ℕ) → Row
 
 -- the hole: a rule that is not there
-abbrev pub holeRule : ℕ
-holeRule = {HOLE[1]}
+abbrev pub hole_rule : ℕ
+hole_rule = {HOLE[1]}
 
 abbrev pub hole : G
-hole = nt holeRule
+hole = nt hole_rule
 
-abbrev pub stateCount : ℕ
-stateCount = {len(states)}
+abbrev pub state_count : ℕ
+state_count = {len(states)}
 
--- kinds of words are below kEnd
-abbrev pub kindCount : ℕ
-kindCount = {KINDS}
+-- kinds of words are below k_end
+abbrev pub kind_count : ℕ
+kind_count = {KINDS}
 
-abbrev pub edgeCount : ℕ
-edgeCount = {len(entries)}
+abbrev pub edge_count : ℕ
+edge_count = {edge_count}
 
-abbrev pub tableSize : ℕ
-tableSize = {len(states) * KINDS}
+abbrev pub table_size : ℕ
+table_size = {len(states) * KINDS}
 
 -- states within parentheses are 1 to this one: those of boolean expressions, then those of constraints
-abbrev pub lastInside : ℕ
-lastInside = {LAST_INSIDE}
+abbrev pub last_inside : ℕ
+last_inside = {LAST_INSIDE}
 
 -- of a state within parentheses, the state behind an operand
 unfoldable pub had : ℕ → ℕ
 had s = if ltb s {first_constraint} then {had_bool} else {had_constraint}
 
 -- the state before the first word
-abbrev pub startState : ℕ
-startState = {START}
+abbrev pub start_state : ℕ
+start_state = {START}
 
 -- the states where a text may end: behind a statement of section 5, behind one of section 6
 abbrev pub accepting : ℕ → Bool
@@ -318,7 +317,7 @@ pub const TABLE_SIZE: usize = {len(states) * KINDS};
 
 pub type Next = [u8; TABLE_SIZE];
 
-pub const EDGE_COUNT: usize = {len(entries)};
+pub const EDGE_COUNT: usize = {edge_count};
 
 pub type Edges = [usize; EDGE_COUNT];
 

@@ -60,7 +60,8 @@ unfoldable pub rows : List Row
 rows =
     (state 0 (fresh none) [])
     ∷ (state 1 (fresh (bool_e · w ")" · hole)) ((k_name, 2) ∷ (k_lparen, 1) ∷ (k_bang, 3) ∷ []))
-    ∷ (state 2 (behind 1 (k_name ∷ [])) ((k_rparen, 64) ∷ (k_caret, 3) ∷ (k_same, 4) ∷ (k_differ, 4) ∷ (k_both, 3) ∷ (k_either, 3) ∷ []))
+    ∷ (state 2 (behind 1 (k_name ∷ [])) ((k_rparen, 64) ∷ (k_caret, 3) ∷ (k_same, 4) ∷ (k_differ, 4) ∷ (k_both, 3) ∷
+    (k_either, 3) ∷ []))
     ∷ (state 3 (behind 1 (k_bang ∷ [])) ((k_name, 2) ∷ (k_lparen, 1) ∷ (k_bang, 3) ∷ []))
     ∷ (state 4 (behind 2 (k_same ∷ [])) ((k_name, 2) ∷ (k_lparen, 1) ∷ []))
     ∷ (state 5 (fresh (constraint_e · w ")" · hole)) ((k_lparen, 5) ∷ (k_not, 6) ∷ (k_u1, 7) ∷ (k_u2, 8) ∷ (k_r1, 9) ∷ (k_r2, 8) ∷
@@ -131,9 +132,10 @@ rows =
     ∷ (state 62 (behind 43 (k_open ∷ [])) ((k_name, 84) ∷ (k_minus, 85) ∷ []))
     ∷ (state 63 (behind 43 (k_tilde ∷ [])) ((k_name, 61) ∷ (k_open, 86) ∷ []))
     ∷ (state 64 (behind 44 (k_lparen ∷ k_name ∷ k_rparen ∷ [])) ((k_open, 87) ∷ []))
-    ∷ (state 65 (behind 47 (k_semi ∷ [])) ((k_attribute, 33) ∷ (k_type, 34) ∷ (k_typealias, 35) ∷ (k_typeattribute, 36) ∷ (k_bool, 37) ∷
-    (k_typebounds, 36) ∷ (k_permissive, 33) ∷ (k_role, 38) ∷ (k_role_transition, 39) ∷ (k_type_transition, 40) ∷ (k_type_change, 40) ∷
-    (k_type_member, 40) ∷ (k_allow, 41) ∷ (k_auditallow, 42) ∷ (k_dontaudit, 42) ∷ (k_neverallow, 43) ∷ (k_if, 44) ∷ (k_user, 88) ∷ []))
+    ∷ (state 65 (behind 47 (k_semi ∷ [])) ((k_attribute, 33) ∷ (k_type, 34) ∷ (k_typealias, 35) ∷ (k_typeattribute, 36) ∷
+    (k_bool, 37) ∷ (k_typebounds, 36) ∷ (k_permissive, 33) ∷ (k_role, 38) ∷ (k_role_transition, 39) ∷ (k_type_transition, 40) ∷
+    (k_type_change, 40) ∷ (k_type_member, 40) ∷ (k_allow, 41) ∷ (k_auditallow, 42) ∷ (k_dontaudit, 42) ∷ (k_neverallow, 43) ∷
+    (k_if, 44) ∷ (k_user, 88) ∷ []))
     ∷ (state 66 (behind 48 (k_alias ∷ [])) ((k_name, 68) ∷ (k_open, 89) ∷ []))
     ∷ (state 67 (behind 49 (k_alias ∷ [])) ((k_name, 47) ∷ (k_open, 90) ∷ []))
     ∷ (state 68 (behind 50 (k_name ∷ [])) ((k_semi, 65) ∷ (k_comma, 50) ∷ []))
@@ -171,8 +173,8 @@ rows =
     ∷ (state 100 (behind 86 (k_name ∷ [])) ((k_name, 100) ∷ (k_close, 61) ∷ []))
     ∷ (state 101 (behind 87 (k_close ∷ [])) ((k_attribute, 33) ∷ (k_type, 34) ∷ (k_typealias, 35) ∷ (k_typeattribute, 36) ∷
     (k_bool, 37) ∷ (k_typebounds, 36) ∷ (k_permissive, 33) ∷ (k_role, 38) ∷ (k_role_transition, 39) ∷ (k_type_transition, 40) ∷
-    (k_type_change, 40) ∷ (k_type_member, 40) ∷ (k_allow, 41) ∷ (k_auditallow, 42) ∷ (k_dontaudit, 42) ∷ (k_neverallow, 43) ∷ (k_if, 44) ∷
-    (k_else, 110) ∷ (k_user, 88) ∷ []))
+    (k_type_change, 40) ∷ (k_type_member, 40) ∷ (k_allow, 41) ∷ (k_auditallow, 42) ∷ (k_dontaudit, 42) ∷ (k_neverallow, 43) ∷
+    (k_if, 44) ∷ (k_else, 110) ∷ (k_user, 88) ∷ []))
     ∷ (state 102 (behind 87 (k_allow ∷ [])) ((k_name, 111) ∷ (k_open, 112) ∷ []))
     ∷ (state 103 (behind 88 (k_name ∷ [])) ((k_roles, 113) ∷ []))
     ∷ (state 104 (behind 89 (k_name ∷ [])) ((k_name, 104) ∷ (k_close, 68) ∷ []))
