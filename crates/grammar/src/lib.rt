@@ -57,7 +57,8 @@ pub fn step(next: &Next, st: State, k: u8) -> State
     requires { (next.now ≡ next_table) × (st.s < state_count) × (st.depth + 1 < 2 ^ 64) }
     ensures { Stepped st.s st.depth k result.s result.depth }
 {
-    if k >= table::KINDS {
+    let beyond = k >= table::KINDS;
+    if beyond {
         return State { s: 0, depth: 0 };
     }
     let s = st.s;
@@ -91,7 +92,8 @@ pub fn accepting(st: State) -> bool
     ensures { result ≡ nullable (regex st.s st.depth) }
 {
     let s = st.s;
-    if s == table::AFTER_USER {
+    let after_user = s == table::AFTER_USER;
+    if after_user {
         return true;
     }
     s == table::AFTER_CONSTRAIN

@@ -89,7 +89,8 @@ fn take(next: &Next, totals: &mut [u16; 14], t: Turn, w: Span) -> Turn
     let before = t.state;
     let seen = t.seen;
     let state = grammar::step(next, before, w.kind);
-    if state.s == 0 {
+    let stuck = state.s == 0;
+    if stuck {
         return refused(t, NOT_GRAMMAR, w.start);
     }
     let own = sizes::count(totals, t.own, seen, w.kind);

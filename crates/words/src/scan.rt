@@ -37,7 +37,8 @@ fn scan_step(st: u8, b: u8) -> u8
     ensures { result ≡ scan_step st b }
 {
     if st == COMMENT {
-        if b == b'\n' {
+        let ends = b == b'\n';
+        if ends {
             return BETWEEN;
         }
         return COMMENT;

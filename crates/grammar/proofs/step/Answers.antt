@@ -6,27 +6,27 @@ use native.Mathlib.Omega.{arith}
 use Rattle.grammar.proofs.Turn.{step-beyond, step-outside, step-open, step_in, step-last, step-close}
 use Rattle.grammar.proofs.step.Goals as goal
 
-pub returns-then-k-ge-KINDS : goal.returns-then-k-ge-KINDS
-returns-then-k-ge-KINDS c = step-beyond _ _ _ c.requires.1 (omega arith)
+pub returns-then-beyond : goal.returns-then-beyond
+returns-then-beyond c = step-beyond _ _ _ c.requires.1 (omega arith)
 
 pub returns-then-s-gt-LAST_INSIDE : goal.returns-then-s-gt-LAST_INSIDE
-returns-then-s-gt-LAST_INSIDE c = let pre = c.requires in step-outside _ pre.0 _ _ _ pre.1 c.if-k-ge-KINDS.false c.if-s-gt-LAST_INSIDE.true
+returns-then-s-gt-LAST_INSIDE c = let pre = c.requires in step-outside _ pre.0 _ _ _ pre.1 c.if-beyond.false c.if-s-gt-LAST_INSIDE.true
 
 pub returns-then-k-eq-LPAREN : goal.returns-then-k-eq-LPAREN
 returns-then-k-eq-LPAREN c = let pre = c.requires in
-    step-open _ pre.0 _ _ _ pre.1 c.if-k-ge-KINDS.false c.if-s-gt-LAST_INSIDE.false c.if-k-eq-LPAREN.true
+    step-open _ pre.0 _ _ _ pre.1 c.if-beyond.false c.if-s-gt-LAST_INSIDE.false c.if-k-eq-LPAREN.true
 
 pub returns-then-n-le-LAST_INSIDE : goal.returns-then-n-le-LAST_INSIDE
 returns-then-n-le-LAST_INSIDE c = let pre = c.requires in
-    step_in _ pre.0 _ _ _ pre.1 c.if-k-ge-KINDS.false c.if-s-gt-LAST_INSIDE.false c.if-k-eq-LPAREN.false
+    step_in _ pre.0 _ _ _ pre.1 c.if-beyond.false c.if-s-gt-LAST_INSIDE.false c.if-k-eq-LPAREN.false
     c.if-n-le-LAST_INSIDE.true
 
 pub returns-then-depth-eq0 : goal.returns-then-depth-eq0
 returns-then-depth-eq0 c = let pre = c.requires in
-    step-last _ pre.0 _ _ _ pre.1 c.if-k-ge-KINDS.false c.if-s-gt-LAST_INSIDE.false
+    step-last _ pre.0 _ _ _ pre.1 c.if-beyond.false c.if-s-gt-LAST_INSIDE.false
     c.if-k-eq-LPAREN.false c.if-n-le-LAST_INSIDE.false c.if-depth-eq0.true
 
 pub returns : goal.returns
 returns c = let pre = c.requires in
-    step-close _ pre.0 _ _ _ pre.1 c.if-k-ge-KINDS.false c.if-s-gt-LAST_INSIDE.false
+    step-close _ pre.0 _ _ _ pre.1 c.if-beyond.false c.if-s-gt-LAST_INSIDE.false
     c.if-k-eq-LPAREN.false c.if-n-le-LAST_INSIDE.false c.if-depth-eq0.false

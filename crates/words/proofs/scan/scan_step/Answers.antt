@@ -4,13 +4,13 @@ use borrow.Author.Tests.{eq-eqb, ne_eqb}
 use Rattle.meaning.specs.Words.{scan_step}
 use Rattle.words.proofs.scan.scan_step.Goals as goal
 
-pub returns-then-b-eq10 : goal.returns-then-b-eq10
+pub returns-then-ends : goal.returns-then-ends
 unfolding scan_step
-returns-then-b-eq10 c = rw (eq-eqb _ _ c.if-st-eq-COMMENT.true, eq-eqb _ _ c.if-b-eq10.true)
+returns-then-ends c = rw (eq-eqb _ _ c.if-st-eq-COMMENT.true, eq-eqb _ _ c.if-ends.true)
 
 pub returns-then-st-eq-COMMENT : goal.returns-then-st-eq-COMMENT
 unfolding scan_step
-returns-then-st-eq-COMMENT c = rw (eq-eqb _ _ c.if-st-eq-COMMENT.true, ne_eqb _ _ c.if-b-eq10.false)
+returns-then-st-eq-COMMENT c = rw (eq-eqb _ _ c.if-st-eq-COMMENT.true, ne_eqb _ _ c.if-ends.false)
 
 pub returns-then-is_blank : goal.returns-then-is_blank
 unfolding scan_step
