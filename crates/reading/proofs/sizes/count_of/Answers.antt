@@ -6,14 +6,6 @@ use Rattle.meaning.specs.Sizes.{count_of, form_count}
 use Rattle.reading.proofs.Ways.{ways}
 use Rattle.reading.proofs.sizes.count_of.Goals as goal
 
-pub saying-requires : goal.saying-requires
-unfolding count_of
-saying-requires c = tt
-
-pub name_count-requires : goal.name_count-requires
-unfolding count_of
-name_count-requires c = tt
-
 pub returns-then-saying : goal.returns-then-saying
 unfolding count_of
 returns-then-saying c = search ways depth 12 fits 20000
@@ -21,18 +13,6 @@ returns-then-saying c = search ways depth 12 fits 20000
 pub returns-then-k-eq-K_IF : goal.returns-then-k-eq-K_IF
 unfolding count_of
 returns-then-k-eq-K_IF c = search ways depth 12 fits 20000
-
-pub ends-requires : goal.ends-requires
-unfolding count_of
-ends-requires c = tt
-
-pub form_at-requires : goal.form_at-requires
-unfolding count_of
-form_at-requires c = tt
-
-pub form_count-requires : goal.form_count-requires
-unfolding count_of
-form_count-requires c = tt
 
 pub returns-then-ends : goal.returns-then-ends
 unfolding count_of

@@ -5,10 +5,6 @@ use Rattle.meaning.specs.Sizes.{own_limit}
 use Rattle.reading.proofs.Ways.{ways}
 use Rattle.reading.proofs.sizes.own_limit.Goals as goal
 
-pub of_e-requires : goal.of_e-requires
-unfolding own_limit
-of_e-requires c = tt
-
 pub returns-then-of_e : goal.returns-then-of_e
 unfolding own_limit
 returns-then-of_e c = search ways depth 12 fits 20000

@@ -5,21 +5,9 @@ use Rattle.meaning.specs.Statements.{step_s}
 use Rattle.reading.proofs.Ways.{ways}
 use Rattle.reading.proofs.step.at_name.Goals as goal
 
-pub behind-requires : goal.behind-requires
-unfolding step_s
-behind-requires c = tt
-
-pub moved-requires : goal.moved-requires
-unfolding step_s
-moved-requires c = tt
-
 pub returns-then-not-st : goal.returns-then-not-st
 unfolding step_s
 returns-then-not-st c = search ways depth 12 fits 20000
-
-pub signed-requires : goal.signed-requires
-unfolding step_s
-signed-requires c = tt
 
 pub returns-then-st-eq-MINUS : goal.returns-then-st-eq-MINUS
 unfolding step_s

@@ -5,17 +5,9 @@ use Rattle.meaning.specs.Statements.{step_s}
 use Rattle.reading.proofs.Ways.{ways}
 use Rattle.reading.proofs.step.at_open.Goals as goal
 
-pub begun-requires : goal.begun-requires
-unfolding step_s
-begun-requires c = tt
-
 pub returns-then-st : goal.returns-then-st
 unfolding step_s
 returns-then-st c = search ways depth 12 fits 20000
-
-pub opened-requires : goal.opened-requires
-unfolding step_s
-opened-requires c = tt
 
 pub returns : goal.returns
 unfolding step_s

@@ -5,21 +5,9 @@ use Rattle.meaning.specs.Statements.{step_e}
 use Rattle.reading.proofs.Ways.{ways}
 use Rattle.reading.proofs.step.step_c.Goals as goal
 
-pub opened-requires : goal.opened-requires
-unfolding step_e
-opened-requires c = tt
-
 pub returns-then-k-eq-K_OPEN : goal.returns-then-k-eq-K_OPEN
 unfolding step_e
 returns-then-k-eq-K_OPEN c = search ways depth 12 fits 20000
-
-pub is_term-requires : goal.is_term-requires
-unfolding step_e
-is_term-requires c = tt
-
-pub moved-requires : goal.moved-requires
-unfolding step_e
-moved-requires c = tt
 
 pub returns-then-is_term-k : goal.returns-then-is_term-k
 unfolding step_e
