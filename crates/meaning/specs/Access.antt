@@ -1,11 +1,11 @@
 -- "Access answers three masks and the permissive flag of the source type."
 -- Each bit is said by itself; a mask is the number that its bits make.
-use Rattle.std.specs.Prelude.{ℕ, zero, suc, ◌+◌, ◌*◌, ◌/◌, ◌%◌, ◌^◌, Bool, true, false, not, ◌&&◌, ◌||◌, List, [], ◌∷◌, eqb, ltb, get_or, length}
+use Rattle.std.specs.Prelude.{ℕ, zero, suc, ◌+◌, ◌*◌, ◌/◌, ◌%◌, ◌^◌, Bool, true, false, not, ◌&&◌, ◌||◌, List, [], ◌∷◌, eqb, get_or, length}
 use Rattle.meaning.specs.Plain.{if◌then◌else◌, xor, any, every, each, up_to, same_bytes}
 use Rattle.meaning.specs.Statements.{Branch, always, when_true, when_false}
-use Rattle.meaning.specs.Permissions.{Name, Class}
+use Rattle.meaning.specs.Permissions.{Class}
 use Rattle.meaning.specs.Expressions.{value}
-use Rattle.meaning.specs.Policy.{Set, holds, Parent, no_parent, parent, TypeEntry, Switch, Row, RoleAllow, Test, Constrain, Policy}
+use Rattle.meaning.specs.Policy.{holds, no_parent, parent, Row, Test, Constrain, Policy}
 use Rattle.meaning.specs.Contexts.{Context, Asked, refused_with, about, asked, nameless, type_at, class_at}
 use Rattle.meaning.specs.Keywords.{bytes, k_allow, k_auditallow, k_dontaudit, k_u1, k_u2, k_r1, k_r2, k_t1}
 use Rattle.meaning.specs.Refusals.{accepted}

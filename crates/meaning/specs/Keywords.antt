@@ -3,7 +3,7 @@
 -- A word has a kind, which is a number: a bad byte, a name, one of the marks or one of the 38 keywords, counted through the two
 -- lists below. The order is ours: the keywords that begin a statement stand first, the type rules and the AV rules side by side.
 -- The names of the kinds follow (k.. a kind; on later pages p.. a position, c.. what is counted, d.. what a name is declared as); proofs/Spelling.antt has that each is the kind of its spelling.
-use Rattle.std.specs.Prelude.{ℕ, ◌+◌, Bool, true, false, List, [], ◌∷◌, ◌++◌}
+use Rattle.std.specs.Prelude.{ℕ, ◌+◌, Bool, List, [], ◌∷◌, ◌++◌}
 use Prim.Native.String.{String, [] as ε, ◌∷◌ as ◌◃◌}
 use Prim.Native.Char.{code}
 use lib.Text.{eqt}

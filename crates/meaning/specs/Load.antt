@@ -1,14 +1,14 @@
 -- "Load: 1, 2; then 3 or 7, whichever comes first in the text (3 at the same word); then 6, 4, 5, 8, 9, each over the whole text,
 -- first place in text order. Place is 0 for 1, 2 and success."
-use Rattle.std.specs.Prelude.{ℕ, Bool, true, false, List, [], ◌∷◌, ltb, get_or, length}
+use Rattle.std.specs.Prelude.{ℕ, true, false, List, [], ◌∷◌, ltb, get_or, length}
 use Rattle.meaning.specs.Plain.{Spot, nowhere, at}
 use Rattle.meaning.specs.Words.{Word, words_of}
 use Rattle.meaning.specs.Sizes.{Verdict, fits, ungrammatical, oversize, read_text}
 use Rattle.meaning.specs.Statements.{Statement, statements_of}
 use Rattle.meaning.specs.Names.{declared_twice, undeclared}
 use Rattle.meaning.specs.Sets.{Names, names_of}
-use Rattle.meaning.specs.Permissions.{Name, Class, bad_permission}
-use Rattle.meaning.specs.Policy.{TypeEntry, Policy, no_policy}
+use Rattle.meaning.specs.Permissions.{bad_permission}
+use Rattle.meaning.specs.Policy.{Policy, no_policy}
 use Rattle.meaning.specs.Rules.{rules_of, policy_of}
 use Rattle.meaning.specs.Contradictions.{contradiction}
 use Rattle.meaning.specs.Neverallow.{Clash, Search, kept, broken, never_broken}

@@ -5,8 +5,8 @@
 --
 --   clashes n rs      all clashes of the rules rs, n the number of types, in that order
 --   never_broken n rs  the first of them (proofs/Clashes.antt)
-use Rattle.std.specs.Prelude.{ℕ, Bool, true, false, ◌&&◌, ◌||◌, List, [], ◌∷◌, eqb, get_or, length}
-use Rattle.meaning.specs.Plain.{if◌then◌else◌, keep, each, joined, up_to}
+use Rattle.std.specs.Prelude.{ℕ, Bool, ◌&&◌, ◌||◌, List, [], ◌∷◌, eqb, get_or, length}
+use Rattle.meaning.specs.Plain.{keep, each, joined, up_to}
 use Rattle.meaning.specs.Policy.{Set, holds, Rule}
 use Rattle.meaning.specs.Keywords.{k_allow, k_neverallow}
 

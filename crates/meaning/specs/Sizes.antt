@@ -6,7 +6,7 @@
 -- words and 16 nested parentheses per expression, an if's own pair in neither. The limit itself is accepted. Repeats count;
 -- statements count at their `;`, an if at `if`."
 -- Not here: the text's own size (Load).
-use Rattle.std.specs.Prelude.{ℕ, zero, suc, ◌+◌, Bool, true, false, not, ◌&&◌, ◌||◌, List, [], ◌∷◌, eqb, ltb, get_or, set, length, replicate}
+use Rattle.std.specs.Prelude.{ℕ, ◌+◌, Bool, not, ◌&&◌, ◌||◌, List, [], ◌∷◌, eqb, ltb, get_or, set, length, replicate}
 use Rattle.meaning.specs.Plain.{if◌then◌else◌}
 use Rattle.meaning.specs.Words.{Word}
 use Rattle.meaning.specs.Grammar.{G, policy, left, is_none, nullable}
