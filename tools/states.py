@@ -237,8 +237,7 @@ FILES = {SPECS: f"""\
 --
 -- In a state within the parentheses of an expression what is left ends in a hole for what follows them, and the closing one leads to
 -- where it leads if no more of them are open.
-use Rattle.std.specs.Prelude.{{ℕ, Bool, ◌||◌, List, [], ◌∷◌, eqb, ltb}}
-use Rattle.meaning.specs.Plain.{{if◌then◌else◌}}
+use Rattle.std.specs.Prelude.{{ℕ, Bool, ◌||◌, List, [], ◌∷◌, eqb, ltb, if◌then◌else◌}}
 use Rattle.meaning.specs.Grammar.{{G, none, nt, ◌·◌, w, policy, {", ".join(EXPRESSIONS)}}}
 use Rattle.meaning.specs.Keywords.{{{names}}}
 

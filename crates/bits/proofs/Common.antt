@@ -16,7 +16,7 @@ use lib.Bits.{bit_and}
 use lib.Count.{count_trailing_zeros}
 use lib.Dec.{ltb}
 use lib.ListN.{length, get_or}
-use Rattle.meaning.specs.Plain.{if◌then◌else◌}
+use Rattle.std.specs.Prelude.{if◌then◌else◌}
 use Rattle.meaning.specs.Policy.{Set, holds, meet}
 use Rattle.meaning.specs.Access.{bit_of}
 use Rattle.meaning.proofs.Lists.{bool_cases, same_test, and_both, both-and, holds-below}

@@ -21,7 +21,8 @@ use lib.Count.{count_trailing_zeros, under}
 use lib.Dec.{eqb, ltb, lit<, eqb-zero-suc, eqb-suc-zero, eqb-suc-suc}
 use lib.ListN.{length}
 use lib.Pow.{shr-shr, pow_pos, pow_mono}
-use Rattle.meaning.specs.Plain.{if◌then◌else◌, xor}
+use Rattle.std.specs.Prelude.{if◌then◌else◌}
+use Rattle.meaning.specs.Plain.{xor}
 use Rattle.meaning.specs.Policy.{Set, holds}
 use Rattle.meaning.specs.Access.{number, bit_of}
 use Rattle.meaning.proofs.Lists.{bool_cases}

@@ -10,7 +10,7 @@ use borrow.Author.Tests.{eqb-true, ltb-true}
 use lib.Dec.{eqb, ltb}
 use lib.ListN.{length, get_or, set, drop, replicate, length-append}
 use lib.Seq.{drop-cons, set_at}
-use Rattle.meaning.specs.Plain.{if◌then◌else◌}
+use Rattle.std.specs.Prelude.{if◌then◌else◌}
 use Rattle.grammar.specs.Table.{edge_count, table_size, rows}
 use Rattle.grammar.specs.States.{edges_of, edges, place_of, entries, next_table, laid}
 use Rattle.grammar.proofs.Entries.{at}

@@ -8,7 +8,7 @@ use mathlib.Core.Path.{◌≡◌, refl, sym, ◌∙◌, ap, ap₂}
 use mathlib.Core.Bool.{Bool, true, false, not, ◌&&◌, ◌||◌, false≢true}
 use borrow.Author.Tests.{ltb-true, ne_eqb}
 use lib.Dec.{eqb, ltb}
-use Rattle.meaning.specs.Plain.{if◌then◌else◌}
+use Rattle.std.specs.Prelude.{if◌then◌else◌}
 use Rattle.meaning.specs.Keywords.{spelt, marks, keywords}
 use Rattle.meaning.specs.Grammar.{G, none, eps, tok, seq, alt, star, nt, ◌·◌, nullable, is_none, or, left_by, left_in, left, rule, rules}
 use Rattle.meaning.proofs.Lists.{and_both}

@@ -10,7 +10,7 @@ use mathlib.Core.List.{List}
 use borrow.Author.Tests.{le-leb, lt-leb, eq-eqb, ne_eqb, eqb-true, ltb-true, not-true}
 use lib.Dec.{eqb, leb, ltb}
 use lib.ListN.{length, get_or}
-use Rattle.meaning.specs.Plain.{if◌then◌else◌}
+use Rattle.std.specs.Prelude.{if◌then◌else◌}
 use Rattle.meaning.specs.Keywords.{k_lparen, k_rparen}
 use Rattle.meaning.specs.Grammar.{G, G-discrete, none, nullable, is_none, left}
 use Rattle.meaning.proofs.Opened.{opened}

@@ -9,8 +9,8 @@
 --   regex s d     what is left in state s at depth d
 --   next_table     a row for each state, an entry for each kind
 --   Stepped ..    a word of kind k leads from state s at depth d to state s' at depth d'
-use Rattle.std.specs.Prelude.{ℕ, zero, suc, ◌+◌, ◌*◌, ◌/◌, ◌%◌, ◌≤◌, ◌<◌, ◌≡◌, List, [], ◌∷◌, ◌++◌, eqb, leb, get_or, set}
-use Rattle.meaning.specs.Plain.{if◌then◌else◌, each, joined}
+use Rattle.std.specs.Prelude.{ℕ, zero, suc, ◌+◌, ◌*◌, ◌/◌, ◌%◌, ◌≤◌, ◌<◌, ◌≡◌, List, [], ◌∷◌, ◌++◌, eqb, leb, get_or, set, if◌then◌else◌}
+use Rattle.meaning.specs.Plain.{each, joined}
 use Rattle.meaning.specs.Keywords.{k_rparen}
 use Rattle.meaning.specs.Grammar.{G, none, eps, tok, seq, alt, star, nt, left}
 use Rattle.meaning.proofs.Viable.{lefts}

@@ -8,8 +8,7 @@
 --
 -- In a state within the parentheses of an expression what is left ends in a hole for what follows them, and the closing one leads to
 -- where it leads if no more of them are open.
-use Rattle.std.specs.Prelude.{ℕ, Bool, ◌||◌, List, [], ◌∷◌, eqb, ltb}
-use Rattle.meaning.specs.Plain.{if◌then◌else◌}
+use Rattle.std.specs.Prelude.{ℕ, Bool, ◌||◌, List, [], ◌∷◌, eqb, ltb, if◌then◌else◌}
 use Rattle.meaning.specs.Grammar.{G, none, nt, ◌·◌, w, policy, bool_e, constraint_e}
 use Rattle.meaning.specs.Keywords.{k_name, k_open, k_close, k_lparen, k_rparen, k_semi, k_colon, k_comma, k_tilde, k_star, k_minus, k_caret, k_bang, k_same, k_differ, k_both, k_either, k_class, k_common, k_attribute, k_type, k_typealias, k_typeattribute, k_bool, k_typebounds, k_permissive, k_role, k_role_transition, k_type_transition, k_type_change, k_type_member, k_allow, k_auditallow, k_dontaudit, k_neverallow, k_if, k_else, k_user, k_constrain, k_inherits, k_alias, k_types, k_roles, k_true, k_false, k_self, k_and, k_or, k_not, k_u1, k_u2, k_r1, k_r2, k_t1, k_t2}
 

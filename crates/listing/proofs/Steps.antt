@@ -12,7 +12,7 @@ use mathlib.Core.List.{List, [], ◌∷◌}
 use borrow.Author.Tests.{ltb-true, ltb-false}
 use lib.Dec.{eqb, ltb}
 use lib.ListN.{take, drop}
-use Rattle.meaning.specs.Plain.{if◌then◌else◌}
+use Rattle.std.specs.Prelude.{if◌then◌else◌}
 use Rattle.meaning.specs.Keywords.{starts, k_else, k_semi, k_open, k_if}
 use Rattle.meaning.specs.Words.{Word}
 use Rattle.meaning.specs.Statements.{Seen, Item, Branch, Gathered, says, item_of, ends, form_at}

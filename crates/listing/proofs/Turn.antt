@@ -13,7 +13,7 @@ use mathlib.Core.Bool.{Bool, true, false}
 use mathlib.Core.List.{List, ◌∷◌}
 use lib.Dec.{eqb}
 use lib.ListN.{length}
-use Rattle.meaning.specs.Plain.{if◌then◌else◌}
+use Rattle.std.specs.Prelude.{if◌then◌else◌}
 use Rattle.meaning.specs.Keywords.{k_if, k_end}
 use Rattle.meaning.specs.Words.{Word, word_at, words_of}
 use Rattle.meaning.specs.Statements.{Seen, begun, Branch, gather, step, branch_at, statements_of}

@@ -18,7 +18,8 @@ use borrow.Author.Tests.{ltb-true, ltb-false}
 use lib.Dec.{ltb}
 use lib.ListN.{length, get_or, set}
 use lib.Seq.{get_or-set_same, get_or-set_other}
-use Rattle.meaning.specs.Plain.{if◌then◌else◌, each, up_to}
+use Rattle.std.specs.Prelude.{if◌then◌else◌}
+use Rattle.meaning.specs.Plain.{each, up_to}
 use Rattle.meaning.specs.Statements.{Item, Statement, Gathered}
 use Rattle.listing.specs.Listed.{entry, item_at, items_from, branch_of, behind_items, stmt_at, listed}
 use Rattle.listing.specs.Joined.{completed, joined_with, Firsts}

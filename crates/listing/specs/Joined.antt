@@ -7,8 +7,8 @@
 --                           m statements and n items stand in the rows, the last statement is open; behind them comes g
 --   Firsts stmts m n        no statement's first item is past the n items
 --   Inside size items n     the n items lie inside a text of that size
-use Rattle.std.specs.Prelude.{ℕ, zero, suc, ◌+◌, ◌≤◌, ◌<◌, Bool, not, ◌&&◌, List, [], ◌∷◌, ◌++◌, eqb}
-use Rattle.meaning.specs.Plain.{if◌then◌else◌, each, up_to}
+use Rattle.std.specs.Prelude.{ℕ, zero, suc, ◌+◌, ◌≤◌, ◌<◌, Bool, not, ◌&&◌, List, [], ◌∷◌, ◌++◌, eqb, if◌then◌else◌}
+use Rattle.meaning.specs.Plain.{each, up_to}
 use Rattle.meaning.specs.Keywords.{starts, k_if, k_else}
 use Rattle.meaning.specs.Words.{Word}
 use Rattle.meaning.specs.Statements.{Seen, Branch, Statement, Gathered, says, item_of, ends, form_at}

@@ -12,8 +12,8 @@
 --   listed s items stmts m n       all statements
 --
 -- A kind, a position and a form are bytes: the readers take them so from any rows.
-use Rattle.std.specs.Prelude.{ℕ, ◌+◌, ◌-◌, ◌*◌, ◌/◌, ◌%◌, List, eqb, ltb, take, drop, get_or}
-use Rattle.meaning.specs.Plain.{if◌then◌else◌, each, numbers, up_to}
+use Rattle.std.specs.Prelude.{ℕ, ◌+◌, ◌-◌, ◌*◌, ◌/◌, ◌%◌, List, eqb, ltb, take, drop, get_or, if◌then◌else◌}
+use Rattle.meaning.specs.Plain.{each, numbers, up_to}
 use Rattle.meaning.specs.Statements.{Item, Branch, always, when_true, when_false, Statement}
 
 -- the bytes of the longest text, and so the most rows of each kind

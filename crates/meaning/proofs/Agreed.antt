@@ -11,7 +11,8 @@ use mathlib.Core.Bool.{Bool, true, false, ◌&&◌, false≢true}
 use mathlib.Core.List.{List, [], ◌∷◌}
 use lib.ListN.{length}
 use borrow.Author.Tests.{eqb-true, eq-eqb, not-false}
-use Rattle.meaning.specs.Plain.{if◌then◌else◌, any, Spot, nowhere, at, earlier}
+use Rattle.std.specs.Prelude.{if◌then◌else◌}
+use Rattle.meaning.specs.Plain.{any, Spot, nowhere, at, earlier}
 use Rattle.meaning.specs.Statements.{Statement}
 use Rattle.meaning.specs.Sets.{Names}
 use Rattle.meaning.specs.Policy.{Set, holds, meet, TypeRow, RoleTransition, Policy}

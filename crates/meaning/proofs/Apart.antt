@@ -10,7 +10,8 @@ use native.Mathlib.Omega.{arith}
 use borrow.Author.Tests.{eqb-true, eq-eqb, ne_eqb, lt-ltb, ltb-true, ltb-false, leb-true}
 use lib.Dec.{eqb, ltb, leb}
 use lib.ListN.{length, get_or}
-use Rattle.meaning.specs.Plain.{if◌then◌else◌, any, keep, each, joined, within, nowhere, first_at}
+use Rattle.std.specs.Prelude.{if◌then◌else◌}
+use Rattle.meaning.specs.Plain.{any, keep, each, joined, within, nowhere, first_at}
 use Rattle.meaning.specs.Statements.{Item, Statement}
 use Rattle.meaning.specs.Names.{Decl, declares, decl_of, declared_by, declared, object_r, repeats, space, perm_decls, twice_word, second_perms, twice_in, declared_twice, d_none, d_type, d_role, d_class, d_bool, d_perm}
 use Rattle.meaning.specs.Permissions.{class_of, classes_in}

@@ -8,7 +8,7 @@ use Prim.Native.Nat.{ℕ, ◌<◌}
 use borrow.Author.Tests.{ltb-true}
 use lib.Dec.{ltb}
 use lib.ListN.{length, get_or}
-use Rattle.meaning.specs.Plain.{if◌then◌else◌}
+use Rattle.std.specs.Prelude.{if◌then◌else◌}
 use Rattle.meaning.specs.Policy.{Policy}
 use Rattle.meaning.specs.Rules.{class_number}
 use Rattle.meaning.specs.Contexts.{Context, Reading, wrong, reads, judged, parts, named, context_of, nameless, type_number, class_at, Asked, refused_with, about, asked_class, asked_target, asked_source, asked}

@@ -10,7 +10,7 @@ use mathlib.Core.List.{List, [], ◌∷◌}
 use borrow.Author.Tests.{eqb-true}
 use lib.Dec.{eqb}
 use lib.ListN.{length}
-use Rattle.meaning.specs.Plain.{if◌then◌else◌}
+use Rattle.std.specs.Prelude.{if◌then◌else◌}
 use Rattle.meaning.specs.Keywords.{k_close, k_if, k_else}
 use Rattle.meaning.specs.Words.{Word, words_of}
 use Rattle.meaning.specs.Statements.{Seen, outside, step, Branch, always, when_true, when_false, Statement, statements_of, ends, form_at, branch_at, Gathered, gather, of_form, says}

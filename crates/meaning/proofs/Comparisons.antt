@@ -9,7 +9,8 @@ use mathlib.Core.List.{List, [], ◌∷◌}
 use borrow.Author.Tests.{eqb-true}
 use lib.Dec.{eqb}
 use lib.ListN.{length}
-use Rattle.meaning.specs.Plain.{if◌then◌else◌, within}
+use Rattle.std.specs.Prelude.{if◌then◌else◌}
+use Rattle.meaning.specs.Plain.{within}
 use Rattle.meaning.specs.Keywords.{k_lparen, k_rparen, k_bang, k_not, k_u1, k_u2, k_r1, k_r2, is_term}
 use Rattle.meaning.specs.Statements.{Item, compared, p_test, p_users, p_roles, p_types}
 use Rattle.meaning.specs.Sets.{Names, named_in}

@@ -11,7 +11,8 @@ use borrow.Author.Tests.{eqb-true, eqb-false, ne_eqb, leb-true, lt-ltb}
 use lib.Dec.{eqb, leb}
 use lib.ListN.{length, get_or, set, length-set}
 use lib.Seq.{get_or-set_same, get_or-set_other}
-use Rattle.meaning.specs.Plain.{if◌then◌else◌, keep}
+use Rattle.std.specs.Prelude.{if◌then◌else◌}
+use Rattle.meaning.specs.Plain.{keep}
 use Rattle.meaning.specs.Words.{Word}
 use Rattle.meaning.specs.Statements.{Seen, outside, in_e, of_e, step, Item, Statement, saying, says, item_of, ends, form_at, Gathered, p_first, p_second, p_third, p_class, p_test, p_types}
 use Rattle.meaning.specs.Sizes.{limits, name_count, form_count, count_of, Counts, no_counts, counted, c_ifs, c_none}

@@ -9,7 +9,8 @@ use mathlib.Core.Bool.{Bool, true, false, ◌&&◌, ◌||◌, false≢true, and_
 use mathlib.Core.List.{List, [], ◌∷◌, ◌++◌}
 use borrow.Author.Tests.{eqb-true}
 use lib.Dec.{eqb}
-use Rattle.meaning.specs.Plain.{if◌then◌else◌, within, any, keep, each, joined}
+use Rattle.std.specs.Prelude.{if◌then◌else◌}
+use Rattle.meaning.specs.Plain.{within, any, keep, each, joined}
 use Rattle.meaning.specs.Keywords.{k_name, k_class, k_common, k_attribute, k_type, k_typealias, k_bool, k_role, k_user, k_perms}
 use Rattle.meaning.specs.Statements.{Item, Statement, part, names_at, of_form, p_first, p_second, p_third, p_fourth}
 use Rattle.meaning.specs.Names.{Decl, declares_at, declares, decl_of, object_r, declared_by, declared, first_text, d_none, d_type, d_attribute, d_alias, d_role, d_user, d_class, d_common, d_bool, d_perm}

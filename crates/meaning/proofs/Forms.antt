@@ -6,7 +6,7 @@ use mathlib.Core.Path.{◌≡◌, refl, sym, ◌∙◌}
 use mathlib.Core.Bool.{Bool, true, false, not, ◌&&◌, ◌||◌, false≢true}
 use borrow.Author.Tests.{eqb-true}
 use lib.Dec.{eqb}
-use Rattle.meaning.specs.Plain.{if◌then◌else◌}
+use Rattle.std.specs.Prelude.{if◌then◌else◌}
 use Rattle.meaning.specs.Keywords.{k_semi, k_class, k_common, k_type, k_typealias, k_typebounds, k_role, k_role_transition, k_allow, k_if, k_constrain, k_perms, k_role_types, k_role_allow, is_type_rule, is_av}
 use Rattle.meaning.specs.Statements.{Seen, form_at, p_second, p_third}
 use Rattle.meaning.proofs.Lists.{or_cases}

@@ -7,7 +7,7 @@ use Prim.Native.Nat.{◌<◌}
 use borrow.Author.Tests.{ltb-true, lt-ltb}
 use lib.Dec.{ltb}
 use lib.ListN.{length}
-use Rattle.meaning.specs.Plain.{if◌then◌else◌}
+use Rattle.std.specs.Prelude.{if◌then◌else◌}
 use Rattle.meaning.specs.Policy.{Policy}
 use Rattle.meaning.specs.Contexts.{Context, no_user, no_role, no_type, role_without_type, user_without_role, Reading, wrong, reads, is_object, role_has, user_has, valid, judged}
 

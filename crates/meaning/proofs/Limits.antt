@@ -10,7 +10,8 @@ use native.Mathlib.Omega.{arith}
 use borrow.Author.Tests.{eqb-true, eq-eqb}
 use lib.Dec.{eqb}
 use lib.ListN.{length}
-use Rattle.meaning.specs.Plain.{if◌then◌else◌, keep, each, joined}
+use Rattle.std.specs.Prelude.{if◌then◌else◌}
+use Rattle.meaning.specs.Plain.{keep, each, joined}
 use Rattle.meaning.specs.Statements.{outside, Statement, Gathered, part, names_at, of_form, p_first}
 use Rattle.meaning.specs.Sizes.{name_count, no_counts, c_none}
 use Rattle.meaning.specs.Keywords.{k_name}

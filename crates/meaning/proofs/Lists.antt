@@ -14,7 +14,8 @@ use native.Mathlib.Omega.{arith}
 use borrow.Author.Tests.{eqb-true, eqb-false, eq-eqb}
 use lib.Dec.{eqb}
 use lib.ListN.{length, get_or}
-use Rattle.meaning.specs.Plain.{if◌then◌else◌, any, keep, each, joined, index_from, numbers, up_to, same_bytes, Spot, nowhere, at, or_else, first_at}
+use Rattle.std.specs.Prelude.{if◌then◌else◌}
+use Rattle.meaning.specs.Plain.{any, keep, each, joined, index_from, numbers, up_to, same_bytes, Spot, nowhere, at, or_else, first_at}
 
 -- ---- truth values
 pub bool_cases : {P : Type 0} (b : Bool) → (b ≡ true → P) → (b ≡ false → P) → P

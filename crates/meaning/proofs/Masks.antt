@@ -12,7 +12,8 @@ use lib.Arith.{digits_mod}
 use lib.Dec.{eqb, lit<}
 use lib.ListN.{length, get_or}
 use lib.Pow.{shr-shr}
-use Rattle.meaning.specs.Plain.{if◌then◌else◌, each, numbers, up_to}
+use Rattle.std.specs.Prelude.{if◌then◌else◌}
+use Rattle.meaning.specs.Plain.{each, numbers, up_to}
 use Rattle.meaning.specs.Access.{number, bit_of, mask}
 use Rattle.meaning.proofs.Lists.{length-each, get_or-each, holds-below}
 

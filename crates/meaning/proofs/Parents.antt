@@ -18,7 +18,8 @@ use mathlib.Core.List.{List, [], ◌∷◌, ◌++◌, append-nil}
 use lib.Dec.{eqb, ltb}
 use lib.ListN.{get_or, length}
 use borrow.Author.Tests.{eqb-true, eqb-false, eq-eqb, ne_eqb, ltb-true, ltb-false, not-false}
-use Rattle.meaning.specs.Plain.{if◌then◌else◌, nowhere}
+use Rattle.std.specs.Prelude.{if◌then◌else◌}
+use Rattle.meaning.specs.Plain.{nowhere}
 use Rattle.meaning.specs.Statements.{Item, Statement}
 use Rattle.meaning.specs.Permissions.{Name}
 use Rattle.meaning.specs.Sets.{Names, names_of}

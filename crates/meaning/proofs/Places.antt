@@ -9,7 +9,8 @@ use Prim.Native.Nat.{ℕ, zero, suc, ◌+◌, ◌-◌, ◌≤◌, ◌<◌}
 use native.Mathlib.Omega.{arith}
 use lib.Dec.{eqb}
 use lib.ListN.{length, take, drop}
-use Rattle.meaning.specs.Plain.{if◌then◌else◌, within, keep, each, joined}
+use Rattle.std.specs.Prelude.{if◌then◌else◌}
+use Rattle.meaning.specs.Plain.{within, keep, each, joined}
 use Rattle.meaning.specs.Words.{Word, end_of, is_letter, scan_step, scan_to, stopped, between, word, mark_here, word_here, word_from, words_from, words_of}
 use Rattle.meaning.specs.Statements.{Seen, step, Item, item_of, Branch, always, Statement, says, branch_at, ends, form_at, outside, Gathered, gather, statements_of}
 use Rattle.meaning.specs.Names.{Decl, declares, decl_of, declared_by, d_type, d_bool}

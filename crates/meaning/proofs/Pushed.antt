@@ -7,7 +7,7 @@ use mathlib.Core.Bool.{Bool, true, false, not, false≢true}
 use mathlib.Core.List.{List, [], ◌∷◌}
 use lib.Dec.{leb}
 use lib.ListN.{get_or}
-use Rattle.meaning.specs.Plain.{if◌then◌else◌}
+use Rattle.std.specs.Prelude.{if◌then◌else◌}
 use Rattle.meaning.specs.Statements.{Branch, always, when_true, when_false}
 use Rattle.meaning.specs.Expressions.{binds, binds_not, loosest, Token, leaf, sign, negation, lpar, rpar, Code, push, does, negates, Waiting, wait, wait_not, paren, Popped, popped, postfix}
 use Rattle.meaning.specs.Policy.{Switch, Policy}

@@ -12,7 +12,8 @@ use native.Mathlib.Omega.{arith}
 use borrow.Author.Tests.{eqb-true, eq-eqb}
 use lib.Dec.{eqb}
 use lib.ListN.{length, get_or}
-use Rattle.meaning.specs.Plain.{if◌then◌else◌, each, joined, same_bytes}
+use Rattle.std.specs.Prelude.{if◌then◌else◌}
+use Rattle.meaning.specs.Plain.{each, joined, same_bytes}
 use Rattle.meaning.specs.Statements.{Item, Statement, part, p_first, p_second}
 use Rattle.meaning.specs.Permissions.{Name, Class, class_part, perm_part}
 use Rattle.meaning.specs.Sets.{Names, is_in, type_words, name_words, named_in}

@@ -8,7 +8,8 @@ use mathlib.Core.Path.{◌≡◌, refl}
 use mathlib.Core.Bool.{Bool, true, false, not, ◌&&◌, ◌||◌}
 use mathlib.Core.List.{List, [], ◌∷◌}
 use lib.Dec.{eqb, ltb}
-use Rattle.meaning.specs.Plain.{if◌then◌else◌, within}
+use Rattle.std.specs.Prelude.{if◌then◌else◌}
+use Rattle.meaning.specs.Plain.{within}
 use Rattle.meaning.specs.Keywords.{k_name, k_open, k_close, k_lparen, k_rparen, k_semi, k_colon, k_comma, k_tilde, k_star, k_minus, k_class, k_type, k_typealias, k_typebounds, k_role, k_role_transition, k_if, k_else, k_constrain, k_inherits, k_alias, k_self, starts, is_type_rule, is_av, is_term}
 use Rattle.meaning.specs.Statements.{Seen, moved, in_e, comparing, step, step_e, step_s, behind, compared, saying, plain, minus, p_first, p_third, p_fourth, p_class, p_last, p_test, p_users, p_types, p_behind}
 use Rattle.meaning.proofs.Lists.{bool_cases, and_both, Among, here, there}

@@ -9,7 +9,8 @@ use mathlib.Core.Bool.{Bool, true, false, false≢true}
 use mathlib.Core.List.{List, [], ◌∷◌}
 use lib.Dec.{eqb}
 use lib.ListN.{length, get_or}
-use Rattle.meaning.specs.Plain.{if◌then◌else◌, any, index_from, same_bytes, nowhere, at, first_at}
+use Rattle.std.specs.Prelude.{if◌then◌else◌}
+use Rattle.meaning.specs.Plain.{any, index_from, same_bytes, nowhere, at, first_at}
 use Rattle.meaning.specs.Keywords.{k_name}
 use Rattle.meaning.specs.Statements.{Item, Statement}
 use Rattle.meaning.specs.Names.{Decl, declared, uses_at, uses, serves, is_served, unknown, undeclared, d_class}

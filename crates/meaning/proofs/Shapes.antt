@@ -13,7 +13,8 @@ use mathlib.Core.List.{List, [], ◌∷◌}
 use borrow.Author.Tests.{eqb-true, leb-true, le-leb, not-true}
 use lib.Dec.{eqb, leb}
 use lib.ListN.{length}
-use Rattle.meaning.specs.Plain.{if◌then◌else◌, within, keep}
+use Rattle.std.specs.Prelude.{if◌then◌else◌}
+use Rattle.meaning.specs.Plain.{within, keep}
 use Rattle.meaning.specs.Keywords.{k_name, k_semi, k_class, k_role, k_constrain, starts, is_term}
 use Rattle.meaning.specs.Words.{Word, words_of}
 use Rattle.meaning.specs.Statements.{Seen, outside, step, compared, in_e, of_e, idle, saying, says, Item, item_of, Branch, always, Statement, statements_of, ends, form_at, Gathered, gather, p_first, p_test, p_users, p_types}

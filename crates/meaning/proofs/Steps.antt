@@ -10,7 +10,8 @@ use Prim.Native.Nat.{ℕ, ◌≤◌, ◌<◌}
 use native.Mathlib.Omega.{arith}
 use borrow.Author.Tests.{eqb-true, leb-true, ltb-false}
 use lib.Dec.{eqb, leb, ltb}
-use Rattle.meaning.specs.Plain.{if◌then◌else◌, within}
+use Rattle.std.specs.Prelude.{if◌then◌else◌}
+use Rattle.meaning.specs.Plain.{within}
 use Rattle.meaning.specs.Statements.{Seen, begun, outside, moved, in_e, comparing, behind, compared, step_e, step_s, step, p_first, p_second, p_third, p_class, p_over, p_test, p_users, p_types, p_behind, minus, of_e, idle, saying, says, ends, form_at}
 use Rattle.meaning.specs.Keywords.{k_name, k_open, k_close, k_lparen, k_rparen, k_semi, k_colon, k_comma, k_tilde, k_star, k_minus, k_class, k_common, k_role, k_allow, k_if, k_else, k_constrain, k_inherits, k_alias, k_true, k_false, k_self, k_u1, k_u2, k_r1, k_r2, k_perms, k_role_types, k_role_allow, starts, is_term}
 use Rattle.meaning.proofs.Lists.{bool_cases, and_both, or_cases}

@@ -11,7 +11,8 @@ use native.Mathlib.Omega.{arith}
 use borrow.Author.Tests.{eqb-true}
 use lib.Dec.{eqb, ltb}
 use lib.ListN.{length, get_or}
-use Rattle.meaning.specs.Plain.{if◌then◌else◌, within, keep, each, joined, index_from, same_bytes, nowhere}
+use Rattle.std.specs.Prelude.{if◌then◌else◌}
+use Rattle.meaning.specs.Plain.{within, keep, each, joined, index_from, same_bytes, nowhere}
 use Rattle.meaning.specs.Statements.{Item, Statement, part, names_at, p_first, p_third}
 use Rattle.meaning.specs.Names.{Decl, declares_at, declares, decl_of, declared_by, declared, object_r, space, first_text, declared_twice, d_type, d_alias, d_bool}
 use Rattle.meaning.specs.Permissions.{Name, item_name}

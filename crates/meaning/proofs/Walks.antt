@@ -10,7 +10,8 @@ use mathlib.Core.List.{List, [], ◌∷◌, ◌++◌, append_assoc, append-nil}
 use borrow.Author.Tests.{eqb-true, ltb-true, ltb-false}
 use lib.Dec.{eqb, ltb}
 use lib.ListN.{get_or, get_or-eq_default}
-use Rattle.meaning.specs.Plain.{if◌then◌else◌, xor, any, every, joined, up_to}
+use Rattle.std.specs.Prelude.{if◌then◌else◌}
+use Rattle.meaning.specs.Plain.{xor, any, every, joined, up_to}
 use Rattle.meaning.specs.Keywords.{spelt, marks, keywords, k_class, k_common, k_if, k_constrain}
 use Rattle.meaning.specs.Grammar.{G, none, eps, tok, seq, alt, star, nt, policy, rule, rules, In, in-eps, in_tok, in-seq, in_left, in_right, in-stop, in-more, in-rule}
 use Rattle.meaning.specs.Statements.{Seen, outside, step, step_e, step_s, behind, compared, p_test, p_behind}

@@ -1,7 +1,7 @@
 -- "Access answers three masks and the permissive flag of the source type."
 -- Each bit is said by itself; a mask is the number that its bits make.
-use Rattle.std.specs.Prelude.{ℕ, zero, suc, ◌+◌, ◌*◌, ◌/◌, ◌%◌, ◌^◌, Bool, true, false, not, ◌&&◌, ◌||◌, List, [], ◌∷◌, eqb, get_or, length}
-use Rattle.meaning.specs.Plain.{if◌then◌else◌, xor, any, every, each, up_to, same_bytes}
+use Rattle.std.specs.Prelude.{ℕ, zero, suc, ◌+◌, ◌*◌, ◌/◌, ◌%◌, ◌^◌, Bool, true, false, not, ◌&&◌, ◌||◌, List, [], ◌∷◌, eqb, get_or, length, if◌then◌else◌}
+use Rattle.meaning.specs.Plain.{xor, any, every, each, up_to, same_bytes}
 use Rattle.meaning.specs.Statements.{Branch, always, when_true, when_false}
 use Rattle.meaning.specs.Permissions.{Class}
 use Rattle.meaning.specs.Expressions.{value}

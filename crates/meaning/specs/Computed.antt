@@ -1,6 +1,6 @@
 -- Computed contexts: create, relabel and member, which are one definition told the question; and owner.
-use Rattle.std.specs.Prelude.{ℕ, suc, ◌-◌, Bool, true, false, ◌&&◌, ◌||◌, List, [], ◌∷◌, ◌++◌, eqb, leb, length, drop}
-use Rattle.meaning.specs.Plain.{if◌then◌else◌, same_bytes}
+use Rattle.std.specs.Prelude.{ℕ, suc, ◌-◌, Bool, true, false, ◌&&◌, ◌||◌, List, [], ◌∷◌, ◌++◌, eqb, leb, length, drop, if◌then◌else◌}
+use Rattle.meaning.specs.Plain.{same_bytes}
 use Rattle.meaning.specs.Permissions.{Class}
 use Rattle.meaning.specs.Policy.{holds, TypeRow, RoleTransition, Policy}
 use Rattle.meaning.specs.Contexts.{Context, Reading, wrong, reads, context_of, Asked, refused_with, about, asked, valid, printed, class_at, colon}

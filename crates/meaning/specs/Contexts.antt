@@ -1,9 +1,9 @@
 -- "A context is `user:role:type`, exactly two colons. It is valid if all three exist (an alias serves) and either the role is
 -- `object_r`, or the role has the type and the user has the role."
 -- The reading tells the first part that is wrong; 01 keeps only 11 or 12 of it.
-use Rattle.std.specs.Prelude.{ℕ, Bool, false, not, ◌&&◌, ◌||◌, List, [], ◌∷◌, ◌++◌, eqb, ltb, get_or, length}
+use Rattle.std.specs.Prelude.{ℕ, Bool, false, not, ◌&&◌, ◌||◌, List, [], ◌∷◌, ◌++◌, eqb, ltb, get_or, length, if◌then◌else◌}
 use Prim.Native.Char.{code}
-use Rattle.meaning.specs.Plain.{if◌then◌else◌, index_from, same_bytes}
+use Rattle.meaning.specs.Plain.{index_from, same_bytes}
 use Rattle.meaning.specs.Permissions.{Name, Class}
 use Rattle.meaning.specs.Policy.{holds, no_parent, TypeEntry, AliasEntry, Role, User, Policy}
 use Rattle.meaning.specs.Rules.{class_number}

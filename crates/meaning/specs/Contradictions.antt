@@ -1,8 +1,8 @@
 -- Refusal 8, "placed at the later statement: after expansion, two type rules of one kind agree on source, target and class with
 -- different results; likewise role_transition; a second, different parent; a bounds cycle, placed at the statement that closes it.
 -- Equal repeats are accepted."
-use Rattle.std.specs.Prelude.{ℕ, zero, suc, Bool, true, false, not, ◌&&◌, List, [], ◌∷◌, eqb, length}
-use Rattle.meaning.specs.Plain.{if◌then◌else◌, any, Spot, nowhere, at, earlier}
+use Rattle.std.specs.Prelude.{ℕ, zero, suc, Bool, true, false, not, ◌&&◌, List, [], ◌∷◌, eqb, length, if◌then◌else◌}
+use Rattle.meaning.specs.Plain.{any, Spot, nowhere, at, earlier}
 use Rattle.meaning.specs.Statements.{Statement}
 use Rattle.meaning.specs.Sets.{Names}
 use Rattle.meaning.specs.Policy.{meet, Parent, no_parent, parent, TypeRow, RoleTransition, Policy}

@@ -4,8 +4,8 @@
 -- `Reads` says in these words which tree some words stand for, and `worth` what it is worth. What is kept of an expression is
 -- `postfix`: each sign behind what it joins; proofs/Grouping.antt has that words which read as a tree are kept as that tree, and
 -- that the value of what is kept is what the tree is worth.
-use Rattle.std.specs.Prelude.{ℕ, ◌+◌, ◌≤◌, Bool, false, not, ◌&&◌, ◌||◌, List, [], ◌∷◌, ◌++◌, leb}
-use Rattle.meaning.specs.Plain.{if◌then◌else◌, xor}
+use Rattle.std.specs.Prelude.{ℕ, ◌+◌, ◌≤◌, Bool, false, not, ◌&&◌, ◌||◌, List, [], ◌∷◌, ◌++◌, leb, if◌then◌else◌}
+use Rattle.meaning.specs.Plain.{xor}
 
 -- the two-sided signs: `==` | `!=` | `&&`, `and` | `^` | `||`, `or`
 pub data Sign : Type 0 where

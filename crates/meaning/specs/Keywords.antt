@@ -3,11 +3,11 @@
 -- A word has a kind, which is a number: a bad byte, a name, one of the marks or one of the 38 keywords, counted through the two
 -- lists below. The order is ours: the keywords that begin a statement stand first, the type rules and the AV rules side by side.
 -- The names of the kinds follow (k.. a kind; on later pages p.. a position, c.. what is counted, d.. what a name is declared as); proofs/Spelling.antt has that each is the kind of its spelling.
-use Rattle.std.specs.Prelude.{ℕ, ◌+◌, Bool, List, [], ◌∷◌, ◌++◌}
+use Rattle.std.specs.Prelude.{ℕ, ◌+◌, Bool, List, [], ◌∷◌, ◌++◌, if◌then◌else◌}
 use Prim.Native.String.{String, [] as ε, ◌∷◌ as ◌◃◌}
 use Prim.Native.Char.{code}
 use lib.Text.{eqt}
-use Rattle.meaning.specs.Plain.{if◌then◌else◌, within, index_from, same_bytes}
+use Rattle.meaning.specs.Plain.{within, index_from, same_bytes}
 
 -- the bytes of a text that is written here
 unfoldable pub bytes : String → List ℕ

@@ -1,6 +1,6 @@
 -- Refusals 6 and 4: what each name declares, and what every other name must be.
-use Rattle.std.specs.Prelude.{ℕ, Bool, true, not, ◌&&◌, ◌||◌, List, [], ◌∷◌, ◌++◌, eqb, ltb}
-use Rattle.meaning.specs.Plain.{if◌then◌else◌, within, any, keep, each, joined, same_bytes, Spot, nowhere, at, first_at}
+use Rattle.std.specs.Prelude.{ℕ, Bool, true, not, ◌&&◌, ◌||◌, List, [], ◌∷◌, ◌++◌, eqb, ltb, if◌then◌else◌}
+use Rattle.meaning.specs.Plain.{within, any, keep, each, joined, same_bytes, Spot, nowhere, at, first_at}
 use Rattle.meaning.specs.Statements.{Item, Statement, part, names_at, p_first, p_second, p_third, p_fourth, p_class, p_last, p_users, p_roles, p_types}
 use Rattle.meaning.specs.Keywords.{bytes, k_name, k_class, k_common, k_attribute, k_type, k_typealias, k_typeattribute, k_bool, k_typebounds, k_permissive, k_role, k_role_transition, k_if, k_user, k_constrain, k_perms, k_role_types, k_role_allow, is_type_rule, is_av}
 

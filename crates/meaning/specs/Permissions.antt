@@ -1,6 +1,6 @@
 -- The permissions of a class, and refusal 5: "permission not one of a class named with it".
-use Rattle.std.specs.Prelude.{ℕ, Bool, not, ◌&&◌, ◌||◌, List, [], ◌++◌, eqb}
-use Rattle.meaning.specs.Plain.{if◌then◌else◌, any, every, keep, each, same_bytes, Spot, nowhere, at, first_at}
+use Rattle.std.specs.Prelude.{ℕ, Bool, not, ◌&&◌, ◌||◌, List, [], ◌++◌, eqb, if◌then◌else◌}
+use Rattle.meaning.specs.Plain.{any, every, keep, each, same_bytes, Spot, nowhere, at, first_at}
 use Rattle.meaning.specs.Statements.{Item, Statement, part, names_at, p_first, p_second, p_third, p_fourth, p_class, p_last}
 use Rattle.meaning.specs.Names.{Decl, declared, first_of, inherited, is_perms_of, d_class}
 use Rattle.meaning.specs.Keywords.{k_name, k_constrain, is_av}

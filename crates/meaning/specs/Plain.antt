@@ -1,6 +1,5 @@
 -- Words on truth values, lists and places that the other pages use. Nothing here is about policies.
 --
---   if b then x else y    x where b holds, else y
 --   xor a b               just one of the two holds
 --   within lo hi k        k is one of lo, lo + 1, .., hi
 --   any p l, every p l    p holds of some element, of every element
@@ -12,12 +11,7 @@
 --   same_bytes x y         x and y read the same
 --   Spot                  a place in the text, or none: `or_else` the first of two that is one, `earlier` the smaller
 --   first_at f l           the first place that f gives on the list
-use Rattle.std.specs.Prelude.{ℕ, zero, suc, ◌+◌, Bool, true, false, not, ◌&&◌, List, [], ◌∷◌, ◌++◌, eqb, leb}
-
-infix 5 if◌then◌else◌
-abbrev pub if◌then◌else◌ {ℓ} : {A : Type ℓ} → Bool → A → A → A
-if true then a else b = a
-if false then a else b = b
+use Rattle.std.specs.Prelude.{ℕ, zero, suc, ◌+◌, Bool, true, false, not, ◌&&◌, List, [], ◌∷◌, ◌++◌, eqb, leb, cond, if◌then◌else◌}
 
 abbrev pub xor : Bool → Bool → Bool
 xor true b = not b
@@ -36,7 +30,7 @@ every p (x ∷ xs) = let r = every p xs in if p x then r else false
 
 abbrev pub keep {ℓ} : {A : Type ℓ} → (A → Bool) → List A → List A
 keep p [] = []
-keep p (x ∷ xs) = if p x then x ∷ keep p xs else keep p xs
+keep p (x ∷ xs) = cond (p x) (x ∷ keep p xs) (keep p xs)
 
 abbrev pub each {ℓ κ} : {A : Type ℓ} {B : Type κ} → (A → B) → List A → List B
 each f [] = []

@@ -1,7 +1,6 @@
 -- What a text says, with numbers for names ("numbers by declaration order") and sets for lists. Everything that a question asks is
 -- in it; how it stands in the lent words is not here but with the table.
-use Rattle.std.specs.Prelude.{ℕ, Bool, true, false, ◌&&◌, List, [], ◌∷◌, get_or}
-use Rattle.meaning.specs.Plain.{if◌then◌else◌}
+use Rattle.std.specs.Prelude.{ℕ, Bool, true, false, ◌&&◌, List, [], ◌∷◌, get_or, if◌then◌else◌}
 use Rattle.meaning.specs.Statements.{Branch}
 use Rattle.meaning.specs.Permissions.{Name, Class}
 use Rattle.meaning.specs.Expressions.{Code}

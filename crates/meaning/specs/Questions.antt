@@ -1,6 +1,6 @@
 -- The questions on names: switch and permission number.
-use Rattle.std.specs.Prelude.{ℕ, Bool, List, [], ◌∷◌, ltb, length}
-use Rattle.meaning.specs.Plain.{if◌then◌else◌, any, same_bytes}
+use Rattle.std.specs.Prelude.{ℕ, Bool, List, [], ◌∷◌, ltb, length, if◌then◌else◌}
+use Rattle.meaning.specs.Plain.{any, same_bytes}
 use Rattle.meaning.specs.Permissions.{Class}
 use Rattle.meaning.specs.Policy.{Switch, Policy}
 use Rattle.meaning.specs.Rules.{number_of, class_number}

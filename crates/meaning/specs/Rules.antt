@@ -1,6 +1,6 @@
 -- From statements to the policy: names to numbers, lists to sets, rules to rows. The text has passed 6, 4 and 5.
-use Rattle.std.specs.Prelude.{ℕ, ◌+◌, Bool, false, ◌||◌, List, [], ◌∷◌, ◌++◌, eqb, get_or}
-use Rattle.meaning.specs.Plain.{if◌then◌else◌, within, any, keep, each, joined, index_from, same_bytes}
+use Rattle.std.specs.Prelude.{ℕ, ◌+◌, Bool, false, ◌||◌, List, [], ◌∷◌, ◌++◌, eqb, get_or, if◌then◌else◌}
+use Rattle.meaning.specs.Plain.{within, any, keep, each, joined, index_from, same_bytes}
 use Rattle.meaning.specs.Statements.{Item, Statement, part, names_at, of_form, p_first, p_second, p_third, p_class, p_last, p_test, p_users, p_roles, p_types}
 use Rattle.meaning.specs.Names.{object_r, first_text}
 use Rattle.meaning.specs.Permissions.{Name, Class, class_part, perm_part, item_name}

@@ -5,8 +5,8 @@
 --   Names            the names of a text, each kind in the order of its declarations ("numbers by declaration order")
 --   types_meant n x   the types that the name x means
 --   is_in ms x        x is in the set that the words ms mean
-use Rattle.std.specs.Prelude.{ℕ, Bool, true, not, ◌&&◌, ◌||◌, List, [], ◌∷◌, eqb}
-use Rattle.meaning.specs.Plain.{if◌then◌else◌, any, keep, each, joined, same_bytes}
+use Rattle.std.specs.Prelude.{ℕ, Bool, true, not, ◌&&◌, ◌||◌, List, [], ◌∷◌, eqb, if◌then◌else◌}
+use Rattle.meaning.specs.Plain.{any, keep, each, joined, same_bytes}
 use Rattle.meaning.specs.Statements.{Item, Statement, part, names_at, plain, minus, tilde, p_first, p_second, p_third}
 use Rattle.meaning.specs.Names.{Decl, declared, first_text, d_type, d_attribute, d_role, d_user, d_bool}
 use Rattle.meaning.specs.Permissions.{Name, Class, classes_in, item_name}

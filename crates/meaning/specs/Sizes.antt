@@ -6,8 +6,7 @@
 -- words and 16 nested parentheses per expression, an if's own pair in neither. The limit itself is accepted. Repeats count;
 -- statements count at their `;`, an if at `if`."
 -- Not here: the text's own size (Load).
-use Rattle.std.specs.Prelude.{ℕ, ◌+◌, Bool, not, ◌&&◌, ◌||◌, List, [], ◌∷◌, eqb, ltb, get_or, set, length, replicate}
-use Rattle.meaning.specs.Plain.{if◌then◌else◌}
+use Rattle.std.specs.Prelude.{ℕ, ◌+◌, Bool, not, ◌&&◌, ◌||◌, List, [], ◌∷◌, eqb, ltb, get_or, set, length, replicate, if◌then◌else◌}
 use Rattle.meaning.specs.Words.{Word}
 use Rattle.meaning.specs.Grammar.{G, policy, left, is_none, nullable}
 use Rattle.meaning.specs.Statements.{Seen, outside, step, of_e, saying, ends, form_at, p_first, p_second, p_third, p_fourth, p_class}

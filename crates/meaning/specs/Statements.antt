@@ -20,8 +20,8 @@
 -- A word's position is known from the words before it: `step` goes from word to word, and no word is looked at twice. What `class`,
 -- `role` and `allow` say is known at the word that ends the statement (`form_at`).
 -- Not here: whether the words are a text of the grammar (Grammar), and what a name means (Names).
-use Rattle.std.specs.Prelude.{ℕ, ◌+◌, ◌-◌, Bool, true, false, not, ◌&&◌, ◌||◌, List, [], ◌∷◌, eqb, ltb}
-use Rattle.meaning.specs.Plain.{if◌then◌else◌, within, keep}
+use Rattle.std.specs.Prelude.{ℕ, ◌+◌, ◌-◌, Bool, true, false, not, ◌&&◌, ◌||◌, List, [], ◌∷◌, eqb, ltb, if◌then◌else◌}
+use Rattle.meaning.specs.Plain.{within, keep}
 use Rattle.meaning.specs.Words.{Word}
 use Rattle.meaning.specs.Keywords.{k_name, k_open, k_close, k_lparen, k_rparen, k_semi, k_colon, k_comma, k_tilde, k_star, k_minus, k_class, k_common, k_role, k_allow, k_if, k_else, k_constrain, k_inherits, k_alias, k_true, k_false, k_self, k_u1, k_u2, k_r1, k_r2, k_perms, k_role_types, k_role_allow, starts, is_term}
 

@@ -6,9 +6,9 @@
 --   Word           its kind, the place of its first byte, its bytes; `end_of` is the place behind it
 --   word_at s p     the word of s at or behind the place p; behind the last word one of kind `k_end`, at the text's end
 --   words_of s      all words of s
-use Rattle.std.specs.Prelude.{ℕ, zero, suc, ◌+◌, ◌-◌, Bool, true, false, ◌||◌, List, [], ◌∷◌, eqb, length, take, drop}
+use Rattle.std.specs.Prelude.{ℕ, zero, suc, ◌+◌, ◌-◌, Bool, true, false, ◌||◌, List, [], ◌∷◌, eqb, length, take, drop, if◌then◌else◌}
 use Prim.Native.Char.{Char, code}
-use Rattle.meaning.specs.Plain.{if◌then◌else◌, within}
+use Rattle.meaning.specs.Plain.{within}
 use Rattle.meaning.specs.Keywords.{kind_of, mark_of, k_bad, k_end}
 
 pub record Word : Type 0 where

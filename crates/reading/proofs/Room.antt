@@ -13,7 +13,7 @@ use mathlib.Core.List.{List, [], ◌∷◌}
 use lib.Dec.{eqb, ltb, lit<}
 use lib.ListN.{get_or, set, replicate, length}
 use borrow.Author.Tests.{lt-ltb, ltb-false, eqb-false}
-use Rattle.meaning.specs.Plain.{if◌then◌else◌}
+use Rattle.std.specs.Prelude.{if◌then◌else◌}
 use Rattle.meaning.specs.Words.{Word}
 use Rattle.meaning.specs.Keywords.{starts, k_name, k_lparen}
 use Rattle.meaning.specs.Statements.{Seen, of_e}

@@ -10,7 +10,7 @@ use Prim.Native.Nat.{ℕ}
 use mathlib.Core.Path.{◌≡◌, sym, ◌∙◌, ap, ap₂}
 use mathlib.Core.Bool.{Bool, true, false, not, true≢false, false≢true}
 use borrow.Author.Tests.{eq-eqb, ne_eqb, lt-ltb, le-ltb}
-use Rattle.meaning.specs.Plain.{if◌then◌else◌}
+use Rattle.std.specs.Prelude.{if◌then◌else◌}
 use Rattle.meaning.specs.Statements.{Seen, plain}
 
 pub yes : {A : Type 0} (b : Bool) {x : A} (y : A) {z : A} → b ≡ true → z ≡ x → z ≡ (if b then x else y)

@@ -15,7 +15,7 @@ use mathlib.Core.Logic.{◌↔◌}
 use borrow.Author.Tests.{lt-ltb, le-ltb, ltb-true, ltb-false}
 use lib.Dec.{ltb}
 use lib.ListN.{length}
-use Rattle.meaning.specs.Plain.{if◌then◌else◌}
+use Rattle.std.specs.Prelude.{if◌then◌else◌}
 use Rattle.meaning.specs.Words.{Word, words_of}
 use Rattle.meaning.specs.Sizes.{Verdict, fits, ungrammatical, oversize, read_text}
 use Rattle.meaning.specs.Load.{text_size, Loaded, refused, after_reading, load_words, load}

@@ -2,8 +2,7 @@
 --
 --   of_verdict v     the answer for what the reading gives
 --   refusal_of s     the answer for the bytes s
-use Rattle.std.specs.Prelude.{ℕ, List, ltb, length}
-use Rattle.meaning.specs.Plain.{if◌then◌else◌}
+use Rattle.std.specs.Prelude.{ℕ, List, ltb, length, if◌then◌else◌}
 use Rattle.meaning.specs.Words.{words_of}
 use Rattle.meaning.specs.Sizes.{Verdict, fits, ungrammatical, oversize, read_text}
 use Rattle.meaning.specs.Load.{text_size}

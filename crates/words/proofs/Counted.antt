@@ -8,7 +8,8 @@ use mathlib.Core.Path.{◌≡◌, ◌∙◌, ap}
 use mathlib.Core.Bool.{Bool, true, false}
 use lib.Dec.{T}
 use lib.ListN.{get_or}
-use Rattle.meaning.specs.Plain.{if◌then◌else◌, each, every, numbers, up_to}
+use Rattle.std.specs.Prelude.{if◌then◌else◌}
+use Rattle.meaning.specs.Plain.{each, every, numbers, up_to}
 
 each_from : (f : ℕ → ℕ) (i n k : ℕ) → k < n → get_or (each f (numbers i n)) k 0 ≡ f (i + k)
 each_from f i zero k h = let b : ⊥ = omega arith in absurd b

@@ -12,7 +12,7 @@ use mathlib.Core.List.{List, [], ◌∷◌}
 use lib.Dec.{eqb}
 use lib.ListN.{length, take, drop, length-take, length-drop}
 use lib.Seq.{drop-drop}
-use Rattle.meaning.specs.Plain.{if◌then◌else◌}
+use Rattle.std.specs.Prelude.{if◌then◌else◌}
 use Rattle.meaning.specs.Keywords.{mark_of, kind_of, k_bad, k_end}
 use Rattle.meaning.specs.Words.{Word, word, is_letter, between, naming, scan_to, mark_here, word_here, word_from, word_at}
 use Rattle.words.specs.declared.Span.{Span}

@@ -10,7 +10,8 @@ use borrow.Author.Tests.{eq-eqb, ne_eqb, eqb-true}
 use lib.Dec.{eqb}
 use lib.ListN.{length, drop, get_or, drop_of_length-le}
 use lib.Seq.{drop-cons}
-use Rattle.meaning.specs.Plain.{if◌then◌else◌, same_bytes}
+use Rattle.std.specs.Prelude.{if◌then◌else◌}
+use Rattle.meaning.specs.Plain.{same_bytes}
 
 unlike : {A : Type 0} → false ≡ true → A
 unlike e = let z : ◌≡◌ {A = ℕ} 0 1 = cc in let b : ⊥ = omega arith in absurd b

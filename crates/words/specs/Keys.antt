@@ -4,8 +4,8 @@
 --   slot_of w     the slot of the word w: its first byte, the one in its middle and its last tell the keywords apart
 --   key_table     in each slot the number of the keyword that has it, or `key_count`; the lengths of the keywords, from `slots` on;
 --                their bytes, from `bytes_at` on, `key_width` to each, filled up with spaces
-use Rattle.std.specs.Prelude.{ℕ, ◌+◌, ◌-◌, ◌*◌, ◌/◌, ◌%◌, List, eqb, ltb, length, get_or}
-use Rattle.meaning.specs.Plain.{if◌then◌else◌, index_from, each, up_to}
+use Rattle.std.specs.Prelude.{ℕ, ◌+◌, ◌-◌, ◌*◌, ◌/◌, ◌%◌, List, eqb, ltb, length, get_or, if◌then◌else◌}
+use Rattle.meaning.specs.Plain.{index_from, each, up_to}
 use Rattle.meaning.specs.Keywords.{bytes, keywords}
 
 abbrev pub slots : ℕ
