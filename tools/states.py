@@ -54,14 +54,14 @@ def then(a, b):
     return then(a[1], then(a[2], b)) if a[0] == 'seq' else ('seq', a, b)
 
 
-OPERATORS = [('∷', lambda a, b: [a] + b), ('/', lambda a, b: ('alt', a, b)), ('·', then)]  # the loosest first; each to the right
-found(r'^infixr 60 ◌·◌\ninfixr 50 ◌/◌$', grammar)
+OPERATORS = [('∷', lambda a, b: [a] + b), ('∣', lambda a, b: ('alt', a, b)), ('·', then)]  # the loosest first; each to the right
+found(r'^infixr 60 ◌·◌\ninfixr 50 ◌∣◌$', grammar)
 
 
 def read(text, given):
     """the value of an expression of Grammar.antt: a grammar, a number, a spelling or a list"""
     text = re.sub(r'--.*', '', text)
-    words = re.findall(r'"[^"]*"|\[\]|[()·/∷]|[^\s()·/∷"]+', text)
+    words = re.findall(r'"[^"]*"|\[\]|[()·∣∷]|[^\s()·∣∷"]+', text)
     if ''.join(words) != re.sub(r'\s', '', text):
         stop(f'{GRAMMAR}: not understood: {text}')
 

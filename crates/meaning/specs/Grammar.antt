@@ -3,7 +3,7 @@
 -- This is the plain grammar: sizes, declarations and kinds of names are not in it.
 --
 --   w "class"     the word of that spelling;  `name` an identifier that is no keyword
---   a · b         a text of a, then one of b;  a / b  one of either;  plus, star, opt  once or more, any number, once or not at all
+--   a · b         a text of a, then one of b;  a ∣ b  one of either;  plus, star, opt  once or more, any number, once or not at all
 --   In g ks       ks, kinds of words, are a text of g
 --   left g k      what is left of g behind a word of kind k. Of `policy`, behind any words, it is `none` just where no text begins with
 --                 them (proofs/Viable.antt)
@@ -12,7 +12,7 @@ use Prim.Native.String.{String}
 use Rattle.meaning.specs.Keywords.{spelt, k_name}
 
 infixr 60 ◌·◌
-infixr 50 ◌/◌
+infixr 50 ◌∣◌
 -- ---- grammars: nothing, the empty text, a word, one after the other, one or the other, any number of times, a rule by number
 pub data G : Type 0 where
   none : G
@@ -33,8 +33,8 @@ alt a b · y = seq (alt a b) y
 star a · y = seq (star a) y
 nt i · y = seq (nt i) y
 
-abbrev pub ◌/◌ : G → G → G
-a / b = alt a b
+abbrev pub ◌∣◌ : G → G → G
+a ∣ b = alt a b
 
 abbrev pub plus : G → G
 plus g = g · star g
@@ -86,43 +86,43 @@ constraint_e = nt 10
 -- "X, the R of role allow and role_transition sources, `types`, `alias` and `roles`, CLASS and PERMS may each be one name or a braced
 -- list without commas; no list is empty. The T of a role_transition is an X."
 abbrev pub names : G
-names = name / list
+names = name ∣ list
 
 abbrev pub more : G
 more = star (w "," · name)
 
 -- "In the four AV rules and the three type rules a braced X may hold `-NAME`."
 abbrev pub source : G
-source = name / w "{" · plus (name / w "-" · name) · w "}"
+source = name ∣ w "{" · plus (name ∣ w "-" · name) · w "}"
 
 -- "`self` stands only among AV targets."
 abbrev pub target : G
-target = name / w "self" / w "{" · plus (name / w "-" · name / w "self") · w "}"
+target = name ∣ w "self" ∣ w "{" · plus (name ∣ w "-" · name ∣ w "self") · w "}"
 
 -- "An X of neverallow, and any PERMS, may instead be `*`, `~NAME` or `~{ names }`, with no `-` and no `self`."
 abbrev pub starred : G
-starred = w "*" / w "~" · names
+starred = w "*" ∣ w "~" · names
 
 abbrev pub perms : G
-perms = names / starred
+perms = names ∣ starred
 
 abbrev pub equality : G
-equality = w "==" / w "!="
+equality = w "==" ∣ w "!="
 
 -- "names, parentheses, `==` and `!=` (bind tightest), then `!`"; "No `!` follows `==` or `!=`." "Parentheses may stand inside
 -- parentheses, as deep as Sizes allows."
 abbrev pub operand : G
-operand = name / w "(" · bool_e · w ")"
+operand = name ∣ w "(" · bool_e · w ")"
 
 abbrev pub negated : G
 negated = star (w "!") · operand · star (equality · operand)
 
 -- "`u1 == u2`, `r1 == r2`, `t1 == t2`, or one of the six against a name or braced list, each also with `!=`"
 abbrev pub against : String → String → G
-against x y = w x · equality · (w y / names) / w y · equality · names
+against x y = w x · equality · (w y ∣ names) ∣ w y · equality · names
 
 abbrev pub test : G
-test = star (w "not") · ((against "u1" "u2" / against "r1" "r2" / against "t1" "t2") / w "(" · constraint_e · w ")")
+test = star (w "not") · ((against "u1" "u2" ∣ against "r1" "r2" ∣ against "t1" "t2") ∣ w "(" · constraint_e · w ")")
 
 unfoldable pub rules : List G
 rules =
@@ -133,22 +133,22 @@ rules =
     -- section 2: `common NAME { perms }`
     ∷ (w "common" · name · list)
     -- section 3: `class NAME { perms }`, `class NAME inherits COMMON`, or that followed by `{ perms }`.
-    ∷ (w "class" · name · (list / w "inherits" · name · opt list))
+    ∷ (w "class" · name · (list ∣ w "inherits" · name · opt list))
     -- section 4, in any order
     ∷ (w "attribute" · name · w ";"
-    / w "type" · name · opt (w "alias" · names) · more · w ";"
-    / w "typealias" · name · w "alias" · names · w ";"
-    / w "typeattribute" · name · name · more · w ";"
-    / w "bool" · name · (w "true" / w "false") · w ";"
-    / w "typebounds" · name · name · more · w ";"
-    / w "permissive" · name · w ";"
-    / w "role" · name · opt (w "types" · names) · w ";"
-    / w "allow" · names · names · w ";"
-    / w "role_transition" · names · names · opt (w ":" · names) · name · w ";"
-    / (w "type_transition" / w "type_change" / w "type_member") · source · source · w ":" · names · name · w ";"
-    / av_rule
-    / w "neverallow" · (source / starred) · (target / starred) · w ":" · names · perms · w ";"
-    / w "if" · w "(" · bool_e · w ")" · w "{" · star av_rule · w "}" · opt (w "else" · w "{" · star av_rule · w "}"))
+    ∣ w "type" · name · opt (w "alias" · names) · more · w ";"
+    ∣ w "typealias" · name · w "alias" · names · w ";"
+    ∣ w "typeattribute" · name · name · more · w ";"
+    ∣ w "bool" · name · (w "true" ∣ w "false") · w ";"
+    ∣ w "typebounds" · name · name · more · w ";"
+    ∣ w "permissive" · name · w ";"
+    ∣ w "role" · name · opt (w "types" · names) · w ";"
+    ∣ w "allow" · names · names · w ";"
+    ∣ w "role_transition" · names · names · opt (w ":" · names) · name · w ";"
+    ∣ (w "type_transition" ∣ w "type_change" ∣ w "type_member") · source · source · w ":" · names · name · w ";"
+    ∣ av_rule
+    ∣ w "neverallow" · (source ∣ starred) · (target ∣ starred) · w ":" · names · perms · w ";"
+    ∣ w "if" · w "(" · bool_e · w ")" · w "{" · star av_rule · w "}" · opt (w "else" · w "{" · star av_rule · w "}"))
     -- section 5: `user U roles R;`
     ∷ (w "user" · name · w "roles" · names · w ";")
     -- section 6: `constrain CLASS PERMS E;`
@@ -156,11 +156,11 @@ rules =
     -- a braced list
     ∷ (w "{" · plus name · w "}")
     -- what may stand in an if: "only allow (type form), auditallow and dontaudit", each `X X : CLASS PERMS;`
-    ∷ ((w "allow" / w "auditallow" / w "dontaudit") · source · target · w ":" · names · perms · w ";")
+    ∷ ((w "allow" ∣ w "auditallow" ∣ w "dontaudit") · source · target · w ":" · names · perms · w ";")
     -- a boolean expression: then `&&`, `^`, `||`
-    ∷ (negated · star ((w "&&" / w "^" / w "||") · negated))
+    ∷ (negated · star ((w "&&" ∣ w "^" ∣ w "||") · negated))
     -- a constraint expression: then `and`, `or`
-    ∷ (test · star ((w "and" / w "or") · test))
+    ∷ (test · star ((w "and" ∣ w "or") · test))
     ∷ []
 
 unfoldable pub rule : ℕ → G
