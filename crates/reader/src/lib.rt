@@ -1,6 +1,6 @@
-// A reader of words that carries the text and the place reached. It holds a reference, so each of its methods is proved by hand:
-// they are few and thin, and `words::word_at`, on slice and number, does the work. Callers take the functions behind the methods,
-// whose parameters are plain. Nothing is refused: behind the last word stands one of kind END.
+// A reader of words that carries the text and the place reached. It holds a reference: its methods are few and thin, and
+// `words::word_at`, on slice and number, does the work. Callers take the functions behind the methods, whose parameters are plain.
+// Nothing is refused: behind the last word stands one of kind END.
 #![tactic(auto)]
 
 ghost use Rattle.std.specs.Prelude.{◌≡◌};
