@@ -1,8 +1,10 @@
 #!/usr/bin/env python3
 """spelling.py: brings the repository's own definitions and lemmas to the spelling of today's library: words in snake case, no
-middle dot in a name. Run once, at the top, right after the kit's port.py; a second run changes nothing.
+middle dot in a name. It was run once, at the top, right after the kit's port.py, and is kept to show what it did: run again it would
+rename what the table LEMMAS names.
 
-It turns the text of crates/*/{specs,proofs}/**.antt and crates/*/src/*.rt, and the names in crates/*/must-fail/*.edit. Functions, types, strings and files keep their names.
+It turns the text of crates/*/{specs,proofs}/**.antt and crates/*/src/*.rt, and the names in crates/*/must-fail/*.edit. Functions,
+types, strings and files keep their names.
 
 Names that would fall together with a definition are turned first, by the table LEMMAS: a lemma that has its definition's name ends
 in `_lem`."""

@@ -1,4 +1,4 @@
-// A reader of words that carries the text and the place reached. It holds a reference: its methods are few and thin, and
+// A reader of words that carries the text and the place reached. Its methods are few and thin:
 // `words::word_at`, on slice and number, does the work. Callers take the functions behind the methods, whose parameters are plain.
 // Nothing is refused: behind the last word stands one of kind END.
 #![tactic(auto)]
