@@ -9,20 +9,30 @@
 use mathlib.Core.Path.{◌≡◌, refl, sym, ap, ap₂, ◌∙◌}
 use mathlib.Core.Bool.{Bool, true, false, ◌&&◌, false≢true}
 use mathlib.Core.List.{List, [], ◌∷◌}
-use Prim.Native.Nat.{ℕ, zero, suc, ◌+◌, ◌-◌, ◌*◌, ◌^◌, ◌<◌, ◌≤◌}
+use Prim.Native.Nat.{ℕ, zero, suc, ◌+◌, ◌-◌, ◌*◌, ◌/◌, ◌%◌, ◌^◌, ◌<◌, ◌≤◌}
 use native.Mathlib.Omega.{arith}
-use borrow.Author.Tests.{ltb-true, lt-ltb}
+use borrow.Author.Tests.{ltb-true, lt-ltb, le-ltb}
 use lib.Bits.{bit_and}
 use lib.Count.{count_trailing_zeros}
 use lib.Dec.{ltb}
 use lib.ListN.{length, get_or}
-use Rattle.std.specs.Prelude.{if◌then◌else◌}
+use Rattle.std.specs.Prelude.{if◌then◌else◌, zip, Some, None, is_some}
+use Rattle.std.specs.Bool.{MatchBool}
+use Rattle.std.specs.List.{AllWithin, HoldsAt}
+use Rattle.std.specs.Option.{unwrap_or}
+use Rattle.std.proofs.lemmas.Slice.Zip.{length-zip, get_or-zip}
 use Rattle.meaning.specs.Policy.{Set, holds, meet}
 use Rattle.meaning.specs.Access.{bit_of}
 use Rattle.meaning.proofs.Lists.{bool_cases, same_test, and_both, both-and, holds-below}
-use Rattle.bits.specs.Bits.{member, set_in, common, first_from, lowest_common, meets}
+use Rattle.bits.specs.Bits.{member, set_in, common, first_from, lowest_common, lowest_in_both, meets}
 use Rattle.bits.proofs.Digits.{below-cases, same_cases, bit-and, bit-none, trailing-clear, trailing-set, trailing_below}
 use Rattle.bits.proofs.Members.{member-at, member_below, length-set_in, holds-set_in}
+
+abbrev pub shared_at : List ℕ → List ℕ → ℕ → ℕ
+shared_at a b i = bit_and (get_or a i 0) (get_or b i 0)
+
+abbrev pub last_at : List ℕ → List ℕ → ℕ → ℕ
+last_at a b i = count_trailing_zeros 32 (shared_at a b i)
 
 pub record Apart (a b : List ℕ) (n : ℕ) : Type 0 where
   pub clear : (k : ℕ) → k < n → common a b k ≡ false
@@ -31,9 +41,6 @@ pub record Lowest (a b : List ℕ) (r : ℕ) : Type 0 where
   pub within : r ≤ 32 * length a
   pub found : r < 32 * length a → common a b r ≡ true
   pub below : Apart a b r
-
-abbrev pub shared_at : List ℕ → List ℕ → ℕ → ℕ
-shared_at a b i = bit_and (get_or a i 0) (get_or b i 0)
 
 -- ---- the first number of which a test holds
 module _ (p : ℕ → Bool) where
@@ -138,39 +145,87 @@ meets-lowest a b =
     (λ g. lt-ltb (lowest_common a b) (32 * length a) (omega arith)))
     (λ e. both-meets a b (lowest_common a b) (w.found (ltb-true (lowest_common a b) (32 * length a) e)))
 
--- ---- the search, word by word
+-- ---- the lowest number as an answer
+pub lowest-back : (a b : List ℕ) → unwrap_or (lowest_in_both a b) (32 * length a) ≡ lowest_common a b
+unfolding lowest_in_both
+lowest-back a b =
+    let w = lowest-is a b in let r = lowest_common a b in let n = 32 * length a in
+    below-cases r n (λ l. rw (lt-ltb r n l)) (λ l. rw (le-ltb r n l) (omega (arith, w.within)))
+
+pub meets-some : (a b : List ℕ) → meets a b ≡ is_some (lowest_in_both a b)
+unfolding lowest_in_both
+meets-some a b = meets-lowest a b ∙ bool_cases (ltb (lowest_common a b) (32 * length a)) (λ e. rw e) (λ e. rw e)
+
+-- ---- the search, word by word: what holds of the two words at one place
+abbrev pub Parted : ℕ × ℕ → Type 0
+Parted p = bit_and p.0 p.1 ≡ 0
+
+abbrev pub Sharing : ℕ × ℕ → Type 0
+Sharing p = bit_and p.0 p.1 ≡ 0 → ⊥
+
 module _ (a b : List ℕ) where
-  pub apart-start : Apart a b 0
-  apart-start = record { clear = λ k h. absurd (omega arith) }
-
   -- number 32 * i + j is in both where bit j of word i of both is set
-  module _ (i : ℕ) where
-    common-at : (j : ℕ) → j < 32 → common a b (32 * i + j) ≡ bit_of (shared_at a b i) j
-    common-at j h = ap₂ ◌&&◌ (member-at a i j h) (member-at b i j h) ∙ sym (bit-and (get_or a i 0) (get_or b i 0) j)
+  common-at : (i j : ℕ) → j < 32 → common a b (32 * i + j) ≡ bit_of (shared_at a b i) j
+  common-at i j h = ap₂ ◌&&◌ (member-at a i j h) (member-at b i j h) ∙ sym (bit-and (get_or a i 0) (get_or b i 0) j)
 
-    apart_more : Apart a b (32 * i) → (t : ℕ) → t ≤ 32 → ((j : ℕ) → j < t → bit_of (shared_at a b i) j ≡ false)
-        → Apart a b (32 * i + t)
-    apart_more h t l f =
-        record {
-          clear = λ k m. below-cases k (32 * i) (h.clear k)
-              (λ g. let e : 32 * i + (k - 32 * i) ≡ k = omega arith in
-              ap (common a b) (sym e) ∙ common-at (k - 32 * i) (omega arith) ∙ f (k - 32 * i) (omega arith));
-        }
+  -- where no two of the first n words share a digit, no number of these words is in both
+  apart_words : (n : ℕ) → AllWithin Parted (zip a b) 0 n → (k : ℕ)
+      → (k < 32 * length a → k < 32 * length b → k < 32 * n) → common a b k ≡ false
+  apart_words n f k l = bool_cases (common a b k)
+      (λ e. let p = and_both (member a k) (member b k) e in
+      let la = member_below a k p.0 in let lb = member_below b k p.1 in let ln = l la lb in
+      let q : 32 * (k / 32) + k % 32 ≡ k = omega arith in
+      let z : shared_at a b (k / 32) ≡ 0 =
+      rw (get_or-zip a b (k / 32) (0, 0) (omega arith) (omega arith)) at (f (k / 32) (0, 0) (omega arith) (omega arith)) in
+      ap (common a b) (sym q) ∙ common-at (k / 32) (k % 32) (omega arith) ∙ ap (λ (w : ℕ). bit_of w (k % 32)) z ∙ bit-none (k % 32))
+      (λ e. e)
 
-    pub apart-turn : Apart a b (32 * i) → shared_at a b i ≡ 0 → Apart a b (32 * (i + 1))
-    apart-turn h z =
-        let e : 32 * i + 32 ≡ 32 * (i + 1) = omega arith in
-        rw e at (apart_more h 32 (omega arith) (λ j l. ap (λ (w : ℕ). bit_of w j) z ∙ bit-none j))
+  none_shared : AllWithin Parted (zip a b) 0 (length (zip a b)) → (k : ℕ) → common a b k ≡ false
+  none_shared f k = let l = length-zip a b in apart_words (length (zip a b)) f k (λ la lb. omega arith)
 
-    pub lowest-found : Apart a b (32 * i) → i < length a → shared_at a b i < 2 ^ 32 → (shared_at a b i ≡ 0 → ⊥)
-        → 32 * i + count_trailing_zeros 32 (shared_at a b i) ≡ lowest_common a b
-    lowest-found h l f n =
-        let w = shared_at a b i in let t = trailing_below 32 w f n in
-        sym (lowest-only a b (32 * i + count_trailing_zeros 32 w) (record {
+  pub lowest-none : AllWithin Parted (zip a b) 0 (length (zip a b)) → None ≡ lowest_in_both a b
+  unfolding lowest_in_both
+  lowest-none f =
+      let e : lowest_common a b ≡ 32 * length a = lowest-only a b (32 * length a) (record {
+        within = omega arith;
+        found = λ l. absurd (omega arith);
+        below = record { clear = λ k _. none_shared f k };
+      }) in
+      rw (le-ltb (lowest_common a b) (32 * length a) (omega arith))
+
+  -- two words at one place that share a digit
+  module _ (i : ℕ) (l : i < length (zip a b)) (s : HoldsAt Sharing (zip a b) i) (w : shared_at a b i < 2 ^ 32) where
+    last-below : last_at a b i < 32
+    last-below =
+        let m = length-zip a b in
+        trailing_below 32 (shared_at a b i) w (rw (get_or-zip a b i (0, 0) (omega arith) (omega arith)) at (s (0, 0)))
+
+    shared : common a b (32 * i + last_at a b i) ≡ true
+    shared = common-at i (last_at a b i) last-below ∙ trailing-set 32 (shared_at a b i) last-below
+
+    -- the first such
+    pub lowest-found : AllWithin Parted (zip a b) 0 i → 32 * i + last_at a b i ≡ lowest_common a b
+    lowest-found f =
+        let t = last-below in let m = length-zip a b in
+        sym (lowest-only a b (32 * i + last_at a b i) (record {
           within = omega arith;
-          found = λ _. common-at (count_trailing_zeros 32 w) t ∙ trailing-set 32 w t;
-          below = apart_more h (count_trailing_zeros 32 w) (omega arith) (trailing-clear 32 w);
+          found = λ _. shared;
+          below = record {
+            clear = λ k h. below-cases k (32 * i) (λ g. apart_words i f k (λ la lb. g))
+                (λ g. let e : 32 * i + (k - 32 * i) ≡ k = omega arith in
+                ap (common a b) (sym e) ∙ common-at i (k - 32 * i) (omega arith)
+                ∙ trailing-clear 32 (shared_at a b i) (k - 32 * i) (omega arith));
+          };
         }))
 
-    pub lowest-none : Apart a b (32 * i) → i ≡ length a → 32 * i ≡ lowest_common a b
-    lowest-none h e = sym (lowest-only a b (32 * i) (record { within = omega arith; found = λ l. absurd (omega arith); below = h }))
+    pub lowest-some : AllWithin Parted (zip a b) 0 i → Some (32 * i + last_at a b i) ≡ lowest_in_both a b
+    unfolding lowest_in_both
+    lowest-some f =
+        let e = lowest-found f in let t = last-below in let m = length-zip a b in
+        rw (lt-ltb (lowest_common a b) (32 * length a) (omega arith)) (ap Some e)
+
+  pub meets-shared : (r : Bool) → MatchBool r ((i : ℕ) × (i < length (zip a b)) × HoldsAt Sharing (zip a b) i)
+      (AllWithin Parted (zip a b) 0 (length (zip a b))) → ((i : ℕ) → shared_at a b i < 2 ^ 32) → r ≡ meets a b
+  meets-shared true (i, l, s) w = sym (both-meets a b (32 * i + last_at a b i) (shared i l s (w i)))
+  meets-shared false f w = bool_cases (meets a b)
+      (λ e. let r = meets-both a b e in absurd (false≢true (sym (none_shared f r.0) ∙ r.1))) sym

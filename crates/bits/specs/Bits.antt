@@ -9,11 +9,12 @@
 --   insert ws i        ws with i put in
 --   less, less_word     in the one and not in the other: of truth values, of words
 --   lowest_common a b   the lowest number in both; 32 for each word where there is none
+--   lowest_in_both a b  that number, where there is one; else None
 --   meets a b          some number is in both
 --   none_from n ws      no number from n on is in
 --
 -- A union is `zip_with bit_or`, a difference `zip_with less_word`. What each does to the set is said in proofs/Members.antt.
-use Rattle.std.specs.Prelude.{ℕ, zero, suc, ◌-◌, ◌*◌, ◌/◌, ◌%◌, ◌^◌, ◌<◌, Bool, true, not, ◌&&◌, List, [], ◌∷◌, length, get_or, take, drop, set, replicate}
+use Rattle.std.specs.Prelude.{ℕ, zero, suc, ◌-◌, ◌*◌, ◌/◌, ◌%◌, ◌^◌, ◌<◌, Bool, true, not, ◌&&◌, List, [], ◌∷◌, length, get_or, take, drop, set, replicate, ltb, if◌then◌else◌, Option, Some, None}
 use Rattle.std.specs.Int.Bits.{bit_and, bit_or, bit_xor}
 use Rattle.meaning.specs.Plain.{every, each, index_from, numbers, up_to}
 use Rattle.meaning.specs.Policy.{Set, meet}
@@ -56,6 +57,10 @@ first_from p i n = index_from p i (numbers i n)
 
 unfoldable pub lowest_common : List ℕ → List ℕ → ℕ
 lowest_common a b = first_from (common a b) 0 (32 * length a)
+
+-- the same, where a number is in both
+unfoldable pub lowest_in_both : List ℕ → List ℕ → Option ℕ
+lowest_in_both a b = if ltb (lowest_common a b) (32 * length a) then Some (lowest_common a b) else None
 
 unfoldable pub meets : List ℕ → List ℕ → Bool
 meets a b = meet (set_in (32 * length a) a) (set_in (32 * length b) b)

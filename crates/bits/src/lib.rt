@@ -2,11 +2,11 @@
 // ranges stands in its `requires`.
 #![tactic(auto)]
 
-ghost use Rattle.std.specs.Prelude.{◌≡◌, ◌-◌, ◌*◌, ◌^◌, ◌<◌, ◌≤◌, min, length};
+ghost use Rattle.std.specs.Prelude.{◌≡◌, ℕ, ◌-◌, ◌*◌, ◌^◌, ◌<◌, ◌≤◌, min, length};
 ghost use mathlib.Core.List.{zip_with};
 ghost use Rattle.std.specs.Int.Bits.{bit_or};
 ghost use Rattle.std.specs.Int.Count.{count_trailing_zeros};
-ghost use Rattle.bits.specs.Bits.{member, packed, full, low_mask, insert, less_word, lowest_common, meets, none_from};
+ghost use Rattle.bits.specs.Bits.{member, packed, full, low_mask, insert, less_word, lowest_in_both, meets, none_from};
 
 // Whether i is in the set.
 pub fn has(ws: &[u32], i: usize) -> bool
@@ -29,7 +29,20 @@ pub fn put(ws: &mut [u32], i: usize)
     requires { i < 32 * length ws.old }
     ensures { ws.new ≡ insert ws.old i }
 {
-    ws[i / 32] = ws[i / 32] | bit(i % 32);
+    ws[i / 32] |= bit(i % 32);
+}
+
+// Each word of dst becomes what op gives for it and the word of src at its place.
+fn each_with<F: Fn(u32, u32) -> u32>(dst: &mut [u32], src: &[u32], op: F)
+    ghost word: { ℕ → ℕ → ℕ }
+    requires same_length { length dst.old ≡ length src.now }
+    requires callable { F.IsAlwaysCallable op }
+    requires gives { (d s r : ℕ) → F.post op d s r → r ≡ word d s }
+    ensures { dst.new ≡ zip_with word dst.old src.now }
+{
+    for (i, d) in dst.iter_mut().enumerate() {
+        *d = op(*d, src[i]);
+    }
 }
 
 // Puts every number of src into dst.
@@ -37,11 +50,7 @@ pub fn union_into(dst: &mut [u32], src: &[u32])
     requires { length dst.old ≡ length src.now }
     ensures { dst.new ≡ zip_with bit_or dst.old src.now }
 {
-    let mut i = 0;
-    while i < dst.len() {
-        dst[i] = dst[i] | src[i];
-        i += 1;
-    }
+    each_with(dst, src, |d, s| d | s);
 }
 
 // Takes every number of src out of dst.
@@ -49,11 +58,7 @@ pub fn minus_into(dst: &mut [u32], src: &[u32])
     requires { length dst.old ≡ length src.now }
     ensures { dst.new ≡ zip_with less_word dst.old src.now }
 {
-    let mut i = 0;
-    while i < dst.len() {
-        dst[i] = dst[i] ^ (dst[i] & src[i]);
-        i += 1;
-    }
+    each_with(dst, src, |d, s| d ^ (d & s));
 }
 
 // The lowest number in a word; 32 where it has none.
@@ -61,33 +66,24 @@ pub fn lowest_bit(w: u32) -> usize
     ensures is { result ≡ count_trailing_zeros 32 w }
     ensures within { result ≤ 32 }
 {
-    u32::trailing_zeros(w) as usize
+    w.trailing_zeros() as usize
 }
 
-// The lowest number in both sets; 32 for each word where there is none.
-pub fn lowest_common(a: &[u32], b: &[u32]) -> usize
+// The lowest number in both sets.
+pub fn lowest_common(a: &[u32], b: &[u32]) -> Option<usize>
     requires same_length { length a.now ≡ length b.now }
     requires small { 32 * length a.now < 2 ^ 64 }
-    ensures { result ≡ lowest_common a.now b.now }
+    ensures { result ≡ lowest_in_both a.now b.now }
 {
-    let mut i = 0;
-    while i < a.len() {
-        let w = a[i] & b[i];
-        if w != 0 {
-            return 32 * i + lowest_bit(w);
-        }
-        i += 1;
-    }
-    32 * i
+    let i = a.iter().zip(b).position(|(x, y)| x & y != 0)?;
+    Some(32 * i + lowest_bit(a[i] & b[i]))
 }
 
 // Whether some number is in both sets.
 pub fn meets(a: &[u32], b: &[u32]) -> bool
-    requires same_length { length a.now ≡ length b.now }
-    requires small { 32 * length a.now < 2 ^ 64 }
     ensures { result ≡ meets a.now b.now }
 {
-    lowest_common(a, b) < 32 * a.len()
+    a.iter().zip(b).any(|(x, y)| x & y != 0)
 }
 
 // The word of all numbers below n.
@@ -95,21 +91,7 @@ pub fn low_mask(n: usize) -> u32
     requires { n ≤ 32 }
     ensures { result ≡ low_mask n }
 {
-    if n < 32 { bit(n) - 1 } else { 4294967295 }
-}
-
-// The first word of the set of all numbers below n.
-fn word_below(n: usize) -> u32
-    ensures { result ≡ low_mask (min n 32) }
-{
-    if n < 32 { low_mask(n) } else { low_mask(32) }
-}
-
-// What is left of n numbers behind a word; 0 where the word has them all.
-fn past_word(n: usize) -> usize
-    ensures { result ≡ n - 32 }
-{
-    if n < 32 { 0 } else { n - 32 }
+    if n < 32 { bit(n) - 1 } else { u32::MAX }
 }
 
 // Makes ws the set of all numbers below n.
@@ -117,11 +99,9 @@ pub fn fill_below(ws: &mut [u32], n: usize)
     ensures { ws.new ≡ packed (length ws.old) (full n) }
 {
     let mut left = n;
-    let mut i = 0;
-    while i < ws.len() {
-        ws[i] = word_below(left);
-        left = past_word(left);
-        i += 1;
+    for w in ws {
+        *w = low_mask(left.min(32));
+        left = left.saturating_sub(32);
     }
 }
 
@@ -130,13 +110,11 @@ pub fn no_bit_from(ws: &[u32], n: usize) -> bool
     ensures { result ≡ none_from n ws.now }
 {
     let mut left = n;
-    let mut i = 0;
-    while i < ws.len() {
-        if word_below(left) < ws[i] {
+    for &w in ws {
+        if low_mask(left.min(32)) < w {
             return false;
         }
-        left = past_word(left);
-        i += 1;
+        left = left.saturating_sub(32);
     }
     true
 }

@@ -1,15 +1,14 @@
+use mathlib.Core.Path.{ap, ◌∙◌}
 use native.Mathlib.Omega.{arith}
-use lib.ListN.{length-set}
+use Rattle.bits.specs.Bits.{low_mask}
 use Rattle.bits.proofs.Turns.{fill-turn, fill_done}
 use Rattle.bits.proofs.fill_below.Goals as goal
 
-pub loop-i-preserved : goal.loop-i-preserved
-loop-i-preserved c = let x = c.args in let l = c.loop-i in (
-  simp length-set (omega arith),
-  simp length-set (omega arith),
+pub loop-w-preserved : goal.loop-w-preserved
+loop-w-preserved c = let x = c.args in let l = c.loop-w in (
   omega arith,
-  fill-turn x.ws.now x.n _ l.i l.invariant.3 (omega arith) _ _ l.invariant.2 c.word_below.ensures,
+  fill-turn x.ws.now x.n _ l.w-index l.invariant.1 (omega arith) _ _ l.invariant.0 (c.low_mask.ensures ∙ ap low_mask c.min.ensures),
 )
 
 pub returns : goal.returns
-returns c = let x = c.args in let l = c.loop-i in fill_done x.ws.now x.n _ l.i l.invariant.3 (omega arith)
+returns c = let x = c.args in let l = c.loop-w in fill_done x.ws.now x.n _ l.w-index l.invariant.1 (omega arith)

@@ -1,21 +1,25 @@
-use borrow.Author.Rules.{rules}
-use mathlib.Core.Path.{ap, ◌∙◌}
-use Prim.Native.Nat.{ℕ, ◌+◌, ◌*◌}
-use native.Mathlib.Omega.{arith}
+-- `bits::lowest_common` meets its contract: the first two words that share a digit have the lowest number in both (lowest-some), and
+-- where no two do no number is in both (lowest-none). Assumes nothing.
+use Rattle.std.proofs.Common.{rules, tests, ap, ◌∙◌, Some, ℕ, ◌+◌, ◌*◌}
+use Rattle.std.proofs.lemmas.Iterator.{IsFirst-from_position, YieldsList-from_slice, YieldsList-from_zip}
 use lib.Bits.{and_lt}
-use Rattle.bits.proofs.Common.{apart-start, apart-turn, lowest-found, lowest-none}
+use Rattle.std.proofs.option.Match.{if_none, if_some}
+use Rattle.bits.proofs.Common.{Parted, Sharing, lowest-none, lowest-some}
 use Rattle.bits.proofs.lowest_common.Goals as goal
 
-pub loop-i-init : goal.loop-i-init
-loop-i-init c = (search rules, apart-start _ _)
-
-pub returns-then-w-ne0 : goal.returns-then-w-ne0
-returns-then-w-ne0 c = let l = c.loop-i in let ka = c.shared_slice_known-1.given in let kb = c.shared_slice_known-2-1.given in
-    ap (λ (t : ℕ). 32 * l.i + t) c.lowest_bit.ensures.is
-    ∙ lowest-found _ _ l.i l.invariant.1 (omega arith) (and_lt 32 _ _ (ka l.i).fits (kb l.i).fits) c.if-w-ne0.true
-
-pub loop-i-preserved : goal.loop-i-preserved
-loop-i-preserved c = (search rules, apart-turn _ _ _ c.loop-i.invariant.1 c.if-w-ne0.false)
+pub returns-in_err-i : goal.returns-in_err-i
+returns-in_err-i c =
+    c.from_residual.ensures ∙ lowest-none _ _ (if_none _ _ c.in_err-i.was
+    (IsFirst-from_position c.position.new.self _ c.position.result Sharing Parted c.position.ensures.ran
+    (YieldsList-from_zip (YieldsList-from_slice c.args.a.now cc) (YieldsList-from_slice c.args.b.now cc))
+    (λ x q k. search (rules, tests)) (λ x q k. search (rules, tests))))
 
 pub returns : goal.returns
-returns c = lowest-none _ _ _ c.loop-i.invariant.1 (omega arith)
+returns c =
+    let i = c.in_ok-i.i in
+    let f = if_some _ _ _ c.in_ok-i.was
+    (IsFirst-from_position c.position.new.self _ c.position.result Sharing Parted c.position.ensures.ran
+    (YieldsList-from_zip (YieldsList-from_slice c.args.a.now cc) (YieldsList-from_slice c.args.b.now cc))
+    (λ x q k. search (rules, tests)) (λ x q k. search (rules, tests))) in
+    ap (λ (t : ℕ). Some (32 * i + t)) c.lowest_bit.ensures.is
+    ∙ lowest-some _ _ i f.0 f.1 (and_lt 32 _ _ (c.type_inv.a i).fits (c.type_inv.b i).fits) f.2

@@ -1,11 +1,13 @@
--- `bits::meets` meets its contract: the sets meet where their lowest common number is one that the words have (meets-lowest).
--- Assumes nothing.
-use mathlib.Core.Path.{sym, ap, ◌∙◌}
-use Prim.Native.Nat.{ℕ, ◌*◌}
-use lib.Dec.{ltb}
-use lib.ListN.{length}
-use Rattle.bits.proofs.Common.{meets-lowest}
+-- `bits::meets` meets its contract: it answers whether some two words at one place share a digit (meets-shared). Assumes nothing.
+use Rattle.std.proofs.Common.{rules, tests}
+use Rattle.std.proofs.lemmas.Iterator.{cases_from_any, YieldsList-from_slice, YieldsList-from_zip}
+use lib.Bits.{and_lt}
+use Rattle.bits.proofs.Common.{Parted, Sharing, meets-shared}
 use Rattle.bits.proofs.meets.Goals as goal
 
 pub returns : goal.returns
-returns c = ap (λ (r : ℕ). ltb r (32 * length c.args.a.now)) c.lowest_common.ensures ∙ sym (meets-lowest _ _)
+returns c = meets-shared _ _ _
+    (cases_from_any c.any.new.self _ _ Sharing Parted c.any.ensures.ran
+    (YieldsList-from_zip (YieldsList-from_slice c.args.a.now cc) (YieldsList-from_slice c.args.b.now cc))
+    (λ x q k. search (rules, tests)) (λ x q k. search (rules, tests)))
+    (λ i. and_lt 32 _ _ (c.type_inv.a i).fits (c.type_inv.b i).fits)
