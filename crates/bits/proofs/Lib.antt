@@ -7,5 +7,5 @@ pub mod Members
 pub mod Kept
 -- the lowest number in two sets, and whether there is one
 pub mod Common
--- a turn of each loop that writes, and of the test for a number past the count
-pub mod Turns
+-- what the loops leave, word by word, is what the contracts name
+pub mod Loops

@@ -2,7 +2,7 @@
 // ranges stands in its `requires`.
 #![tactic(auto)]
 
-ghost use Rattle.std.specs.Prelude.{◌≡◌, ℕ, ◌-◌, ◌*◌, ◌^◌, ◌<◌, ◌≤◌, min, length};
+ghost use Rattle.std.specs.Prelude.{◌≡◌, ◌-◌, ◌*◌, ◌^◌, ◌<◌, ◌≤◌, min, length};
 ghost use mathlib.Core.List.{zip_with};
 ghost use Rattle.std.specs.Int.Bits.{bit_or};
 ghost use Rattle.std.specs.Int.Count.{count_trailing_zeros};
@@ -32,25 +32,15 @@ pub fn put(ws: &mut [u32], i: usize)
     ws[i / 32] |= bit(i % 32);
 }
 
-// Each word of dst becomes what op gives for it and the word of src at its place.
-fn each_with<F: Fn(u32, u32) -> u32>(dst: &mut [u32], src: &[u32], op: F)
-    ghost word: { ℕ → ℕ → ℕ }
-    requires same_length { length dst.old ≡ length src.now }
-    requires callable { F.IsAlwaysCallable op }
-    requires gives { (d s r : ℕ) → F.post op d s r → r ≡ word d s }
-    ensures { dst.new ≡ zip_with word dst.old src.now }
-{
-    for (i, d) in dst.iter_mut().enumerate() {
-        *d = op(*d, src[i]);
-    }
-}
-
 // Puts every number of src into dst.
 pub fn union_into(dst: &mut [u32], src: &[u32])
     requires { length dst.old ≡ length src.now }
     ensures { dst.new ≡ zip_with bit_or dst.old src.now }
 {
-    each_with(dst, src, |d, s| d | s);
+    // kept: src by an index: of a loop over iter_mut().zip(src) a proof does not learn what dst holds behind it
+    for (i, d) in dst.iter_mut().enumerate() {
+        *d |= src[i];
+    }
 }
 
 // Takes every number of src out of dst.
@@ -58,7 +48,10 @@ pub fn minus_into(dst: &mut [u32], src: &[u32])
     requires { length dst.old ≡ length src.now }
     ensures { dst.new ≡ zip_with less_word dst.old src.now }
 {
-    each_with(dst, src, |d, s| d ^ (d & s));
+    // kept: a loop like that of union_into: one function over a closure for both has five clauses, and the two loops have none
+    for (i, d) in dst.iter_mut().enumerate() {
+        *d ^= *d & src[i];
+    }
 }
 
 // The lowest number in a word; 32 where it has none.
@@ -69,9 +62,8 @@ pub fn lowest_bit(w: u32) -> usize
     w.trailing_zeros() as usize
 }
 
-// The lowest number in both sets.
+// The lowest number in both sets, where there is one.
 pub fn lowest_common(a: &[u32], b: &[u32]) -> Option<usize>
-    requires same_length { length a.now ≡ length b.now }
     requires small { 32 * length a.now < 2 ^ 64 }
     ensures { result ≡ lowest_in_both a.now b.now }
 {
