@@ -11,7 +11,7 @@ pub returns-in_err-i : goal.returns-in_err-i
 returns-in_err-i c =
     c.from_residual.ensures ∙ lowest-none _ _ (if_none _ _ c.in_err-i.was
     (IsFirst-from_position c.position.new.self _ c.position.result Sharing Parted c.position.ensures.ran
-    (YieldsList-from_zip (YieldsList-from_slice c.args.a.now cc) (YieldsList-from_slice c.args.b.now cc))
+    (YieldsList-from_zip (YieldsList-from_slice c.args.a.now (rw c.zip.ensures.first c.iter.ensures.rest)) (YieldsList-from_slice c.args.b.now cc))
     (λ x q k. search (rules, tests)) (λ x q k. search (rules, tests))))
 
 pub returns : goal.returns
@@ -19,7 +19,7 @@ returns c =
     let i = c.in_ok-i.i in
     let f = if_some _ _ _ c.in_ok-i.was
     (IsFirst-from_position c.position.new.self _ c.position.result Sharing Parted c.position.ensures.ran
-    (YieldsList-from_zip (YieldsList-from_slice c.args.a.now cc) (YieldsList-from_slice c.args.b.now cc))
+    (YieldsList-from_zip (YieldsList-from_slice c.args.a.now (rw c.zip.ensures.first c.iter.ensures.rest)) (YieldsList-from_slice c.args.b.now cc))
     (λ x q k. search (rules, tests)) (λ x q k. search (rules, tests))) in
     ap (λ (t : ℕ). Some (32 * i + t)) c.lowest_bit.ensures.is
     ∙ lowest-some _ _ i f.0 f.1 (and_lt 32 _ _ (c.type_inv.a i).fits (c.type_inv.b i).fits) f.2
