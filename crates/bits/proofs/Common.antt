@@ -4,7 +4,9 @@
 --   both_meet, meet-both     two sets of a policy meet where some number is in both, and only there
 --   meets-is                 meets is `meet` of the two sets, taken as far as one of them goes
 --   meets-lowest             and is known from the lowest number
---   shared_at a b i           the digits that word i of both has; apart-turn, lowest-found, lowest-none: the search by words
+--   lowest-back, meets-some  lowest_in_both is the lowest number where there is one, and there is one where the sets meet
+--   shared_at, last_at       the digits that word i of both has, and the lowest of them
+--   lowest-none, lowest-some, meets-shared   the answers of a search that goes by pairs of words: Parted, Sharing
 -- Assumes nothing.
 use mathlib.Core.Path.{◌≡◌, refl, sym, ap, ap₂, ◌∙◌}
 use mathlib.Core.Bool.{Bool, true, false, ◌&&◌, false≢true}
@@ -25,7 +27,7 @@ use Rattle.meaning.specs.Policy.{Set, holds, meet}
 use Rattle.meaning.specs.Access.{bit_of}
 use Rattle.meaning.proofs.Lists.{bool_cases, same_test, and_both, both-and, holds-below}
 use Rattle.bits.specs.Bits.{member, set_in, common, first_from, lowest_common, lowest_in_both, meets}
-use Rattle.bits.proofs.Digits.{below-cases, same_cases, bit-and, bit-none, trailing-clear, trailing-set, trailing_below}
+use Rattle.bits.proofs.Digits.{below-cases, same_cases, bit-and, bit-none, lowest-digit}
 use Rattle.bits.proofs.Members.{member-at, member_below, length-set_in, holds-set_in}
 
 abbrev pub shared_at : List ℕ → List ℕ → ℕ → ℕ
@@ -195,33 +197,33 @@ module _ (a b : List ℕ) where
 
   -- two words at one place that share a digit
   module _ (i : ℕ) (l : i < length (zip a b)) (s : HoldsAt Sharing (zip a b) i) (w : shared_at a b i < 2 ^ 32) where
-    last-below : last_at a b i < 32
-    last-below =
+    digit_at : (last_at a b i < 32) × (bit_of (shared_at a b i) (last_at a b i) ≡ true)
+        × ((j : ℕ) → j < last_at a b i → bit_of (shared_at a b i) j ≡ false)
+    digit_at =
         let m = length-zip a b in
-        trailing_below 32 (shared_at a b i) w (rw (get_or-zip a b i (0, 0) (omega arith) (omega arith)) at (s (0, 0)))
+        lowest-digit (shared_at a b i) w (rw (get_or-zip a b i (0, 0) (omega arith) (omega arith)) at (s (0, 0)))
 
     shared : common a b (32 * i + last_at a b i) ≡ true
-    shared = common-at i (last_at a b i) last-below ∙ trailing-set 32 (shared_at a b i) last-below
+    shared = common-at i (last_at a b i) digit_at.0 ∙ digit_at.1
 
     -- the first such
     pub lowest-found : AllWithin Parted (zip a b) 0 i → 32 * i + last_at a b i ≡ lowest_common a b
     lowest-found f =
-        let t = last-below in let m = length-zip a b in
+        let t = digit_at in let m = length-zip a b in
         sym (lowest-only a b (32 * i + last_at a b i) (record {
           within = omega arith;
           found = λ _. shared;
           below = record {
             clear = λ k h. below-cases k (32 * i) (λ g. apart_words i f k (λ la lb. g))
                 (λ g. let e : 32 * i + (k - 32 * i) ≡ k = omega arith in
-                ap (common a b) (sym e) ∙ common-at i (k - 32 * i) (omega arith)
-                ∙ trailing-clear 32 (shared_at a b i) (k - 32 * i) (omega arith));
+                ap (common a b) (sym e) ∙ common-at i (k - 32 * i) (omega arith) ∙ t.2 (k - 32 * i) (omega arith));
           };
         }))
 
     pub lowest-some : AllWithin Parted (zip a b) 0 i → Some (32 * i + last_at a b i) ≡ lowest_in_both a b
     unfolding lowest_in_both
     lowest-some f =
-        let e = lowest-found f in let t = last-below in let m = length-zip a b in
+        let e = lowest-found f in let t = digit_at in let m = length-zip a b in
         rw (lt-ltb (lowest_common a b) (32 * length a) (omega arith)) (ap Some e)
 
   pub meets-shared : (r : Bool) → MatchBool r ((i : ℕ) × (i < length (zip a b)) × HoldsAt Sharing (zip a b) i)

@@ -40,7 +40,7 @@ pub none-fails : (n : ℕ) (ws : List ℕ) (i : ℕ) → get_or ws i 0 < 2 ^ 32 
 none-fails n ws i w h =
     let m = min (n - 32 * i) 32 in
     bool_cases (none_from n ws)
-    (λ t. absurd (not-le_of_lt h (le_ones m (bits_below 32 (get_or ws i 0) m w
+    (λ t. absurd (not-le_of_lt h (le_ones m (bits_below (get_or ws i 0) m
     (λ j l. below-cases j 32 (λ g. sym (member-at ws i j g) ∙ none_from_lem n ws t (32 * i + j) (omega arith))
     (bit-above (get_or ws i 0) 32 j w))))))
     (λ t. t)
