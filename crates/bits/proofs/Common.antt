@@ -5,13 +5,14 @@
 --   meets-is                 meets is `meet` of the two sets, taken as far as one of them goes
 --   meets-lowest             and is known from the lowest number
 --   lowest-back, meets-some  lowest_in_both is the lowest number where there is one, and there is one where the sets meet
---   shared_at, last_at       the digits that word i of both has, and the lowest of them
---   lowest-none, lowest-some, meets-shared   the answers of a search that goes by pairs of words: Parted, Sharing
+--   shared_at, last_at       the digits that word i of both has, and the lowest; apart-turn, lowest-found, lowest-none: the search by words
+--   lowest-some, lowest-nowhere, meets-shared   the answers of a search by pairs of words, which are Parted or Sharing
 -- Assumes nothing.
 use mathlib.Core.Path.{◌≡◌, refl, sym, ap, ap₂, ◌∙◌}
 use mathlib.Core.Bool.{Bool, true, false, ◌&&◌, false≢true}
 use mathlib.Core.List.{List, [], ◌∷◌}
-use Prim.Native.Nat.{ℕ, zero, suc, ◌+◌, ◌-◌, ◌*◌, ◌/◌, ◌%◌, ◌^◌, ◌<◌, ◌≤◌}
+use Prim.Native.Nat.{ℕ, zero, suc, ◌+◌, ◌-◌, ◌*◌, ◌^◌, ◌<◌, ◌≤◌}
+use native.Mathlib.Numerals.{add-one}
 use native.Mathlib.Omega.{arith}
 use borrow.Author.Tests.{ltb-true, lt-ltb, le-ltb}
 use lib.Bits.{bit_and}
@@ -158,7 +159,48 @@ pub meets-some : (a b : List ℕ) → meets a b ≡ is_some (lowest_in_both a b)
 unfolding lowest_in_both
 meets-some a b = meets-lowest a b ∙ bool_cases (ltb (lowest_common a b) (32 * length a)) (λ e. rw e) (λ e. rw e)
 
--- ---- the search, word by word: what holds of the two words at one place
+-- ---- the search, word by word
+module _ (a b : List ℕ) where
+  pub apart-start : Apart a b 0
+  apart-start = record { clear = λ k h. absurd (omega arith) }
+
+  -- number 32 * i + j is in both where bit j of word i of both is set
+  module _ (i : ℕ) where
+    common-at : (j : ℕ) → j < 32 → common a b (32 * i + j) ≡ bit_of (shared_at a b i) j
+    common-at j h = ap₂ ◌&&◌ (member-at a i j h) (member-at b i j h) ∙ sym (bit-and (get_or a i 0) (get_or b i 0) j)
+
+    apart_more : Apart a b (32 * i) → (t : ℕ) → t ≤ 32 → ((j : ℕ) → j < t → bit_of (shared_at a b i) j ≡ false)
+        → Apart a b (32 * i + t)
+    apart_more h t l f =
+        record {
+          clear = λ k m. below-cases k (32 * i) (h.clear k)
+              (λ g. let e : 32 * i + (k - 32 * i) ≡ k = omega arith in
+              ap (common a b) (sym e) ∙ common-at (k - 32 * i) (omega arith) ∙ f (k - 32 * i) (omega arith));
+        }
+
+    pub apart-turn : Apart a b (32 * i) → shared_at a b i ≡ 0 → Apart a b (32 * (i + 1))
+    apart-turn h z =
+        let e : 32 * i + 32 ≡ 32 * (i + 1) = omega arith in
+        rw e at (apart_more h 32 (omega arith) (λ j l. ap (λ (w : ℕ). bit_of w j) z ∙ bit-none j))
+
+    digit_at : shared_at a b i < 2 ^ 32 → (shared_at a b i ≡ 0 → ⊥) → (last_at a b i < 32) × (common a b (32 * i + last_at a b i) ≡ true)
+        × ((j : ℕ) → j < last_at a b i → bit_of (shared_at a b i) j ≡ false)
+    digit_at f n = let d = lowest-digit (shared_at a b i) f n in (d.0, common-at (last_at a b i) d.0 ∙ d.1, d.2)
+
+    pub lowest-found : Apart a b (32 * i) → i < length a → shared_at a b i < 2 ^ 32 → (shared_at a b i ≡ 0 → ⊥)
+        → 32 * i + count_trailing_zeros 32 (shared_at a b i) ≡ lowest_common a b
+    lowest-found h l f n =
+        let d = digit_at f n in
+        sym (lowest-only a b (32 * i + last_at a b i) (record {
+          within = omega arith;
+          found = λ _. d.1;
+          below = apart_more h (last_at a b i) (omega arith) d.2;
+        }))
+
+    pub lowest-none : Apart a b (32 * i) → i ≡ length a → 32 * i ≡ lowest_common a b
+    lowest-none h e = sym (lowest-only a b (32 * i) (record { within = omega arith; found = λ l. absurd (omega arith); below = h }))
+
+-- ---- the search by pairs of words, as far as the shorter set goes
 abbrev pub Parted : ℕ × ℕ → Type 0
 Parted p = bit_and p.0 p.1 ≡ 0
 
@@ -166,68 +208,42 @@ abbrev pub Sharing : ℕ × ℕ → Type 0
 Sharing p = bit_and p.0 p.1 ≡ 0 → ⊥
 
 module _ (a b : List ℕ) where
-  -- number 32 * i + j is in both where bit j of word i of both is set
-  common-at : (i j : ℕ) → j < 32 → common a b (32 * i + j) ≡ bit_of (shared_at a b i) j
-  common-at i j h = ap₂ ◌&&◌ (member-at a i j h) (member-at b i j h) ∙ sym (bit-and (get_or a i 0) (get_or b i 0) j)
+  pair-at : (i : ℕ) → i < length (zip a b) → get_or (zip a b) i (0, 0) ≡ (get_or a i 0, get_or b i 0)
+  pair-at i l = let m = length-zip a b in get_or-zip a b i (0, 0) (omega arith) (omega arith)
 
-  -- where no two of the first n words share a digit, no number of these words is in both
-  apart_words : (n : ℕ) → AllWithin Parted (zip a b) 0 n → (k : ℕ)
-      → (k < 32 * length a → k < 32 * length b → k < 32 * n) → common a b k ≡ false
-  apart_words n f k l = bool_cases (common a b k)
-      (λ e. let p = and_both (member a k) (member b k) e in
-      let la = member_below a k p.0 in let lb = member_below b k p.1 in let ln = l la lb in
-      let q : 32 * (k / 32) + k % 32 ≡ k = omega arith in
-      let z : shared_at a b (k / 32) ≡ 0 =
-      rw (get_or-zip a b (k / 32) (0, 0) (omega arith) (omega arith)) at (f (k / 32) (0, 0) (omega arith) (omega arith)) in
-      ap (common a b) (sym q) ∙ common-at (k / 32) (k % 32) (omega arith) ∙ ap (λ (w : ℕ). bit_of w (k % 32)) z ∙ bit-none (k % 32))
-      (λ e. e)
+  passed : (n : ℕ) → n ≤ length (zip a b) → AllWithin Parted (zip a b) 0 n → Apart a b (32 * n)
+  passed zero l f = apart-start a b
+  passed (suc n) l f =
+      let z : shared_at a b n ≡ 0 = rw (pair-at n l) at (f n (0, 0) (omega arith) (omega arith)) in
+      rw add-one at (apart-turn a b n (passed n (omega arith) (λ k d h g. f k d h (omega arith))) z)
 
   none_shared : AllWithin Parted (zip a b) 0 (length (zip a b)) → (k : ℕ) → common a b k ≡ false
-  none_shared f k = let l = length-zip a b in apart_words (length (zip a b)) f k (λ la lb. omega arith)
+  none_shared f k = bool_cases (common a b k)
+      (λ e. let p = and_both (member a k) (member b k) e in
+      let la = member_below a k p.0 in let lb = member_below b k p.1 in let m = length-zip a b in
+      (passed (length (zip a b)) (omega arith) f).clear k (omega arith))
+      (λ e. e)
 
-  pub lowest-none : AllWithin Parted (zip a b) 0 (length (zip a b)) → None ≡ lowest_in_both a b
+  pub lowest-nowhere : AllWithin Parted (zip a b) 0 (length (zip a b)) → None ≡ lowest_in_both a b
   unfolding lowest_in_both
-  lowest-none f =
-      let e : lowest_common a b ≡ 32 * length a = lowest-only a b (32 * length a) (record {
-        within = omega arith;
-        found = λ l. absurd (omega arith);
-        below = record { clear = λ k _. none_shared f k };
-      }) in
+  lowest-nowhere f =
+      let e = lowest-none a b (length a) (record { clear = λ k _. none_shared f k }) refl in
       rw (le-ltb (lowest_common a b) (32 * length a) (omega arith))
 
-  -- two words at one place that share a digit
   module _ (i : ℕ) (l : i < length (zip a b)) (s : HoldsAt Sharing (zip a b) i) (w : shared_at a b i < 2 ^ 32) where
-    digit_at : (last_at a b i < 32) × (bit_of (shared_at a b i) (last_at a b i) ≡ true)
+    digit-here : (last_at a b i < 32) × (common a b (32 * i + last_at a b i) ≡ true)
         × ((j : ℕ) → j < last_at a b i → bit_of (shared_at a b i) j ≡ false)
-    digit_at =
-        let m = length-zip a b in
-        lowest-digit (shared_at a b i) w (rw (get_or-zip a b i (0, 0) (omega arith) (omega arith)) at (s (0, 0)))
-
-    shared : common a b (32 * i + last_at a b i) ≡ true
-    shared = common-at i (last_at a b i) digit_at.0 ∙ digit_at.1
-
-    -- the first such
-    pub lowest-found : AllWithin Parted (zip a b) 0 i → 32 * i + last_at a b i ≡ lowest_common a b
-    lowest-found f =
-        let t = digit_at in let m = length-zip a b in
-        sym (lowest-only a b (32 * i + last_at a b i) (record {
-          within = omega arith;
-          found = λ _. shared;
-          below = record {
-            clear = λ k h. below-cases k (32 * i) (λ g. apart_words i f k (λ la lb. g))
-                (λ g. let e : 32 * i + (k - 32 * i) ≡ k = omega arith in
-                ap (common a b) (sym e) ∙ common-at i (k - 32 * i) (omega arith) ∙ t.2 (k - 32 * i) (omega arith));
-          };
-        }))
+    digit-here = digit_at a b i w (rw (pair-at i l) at (s (0, 0)))
 
     pub lowest-some : AllWithin Parted (zip a b) 0 i → Some (32 * i + last_at a b i) ≡ lowest_in_both a b
     unfolding lowest_in_both
     lowest-some f =
-        let e = lowest-found f in let t = digit_at in let m = length-zip a b in
+        let m = length-zip a b in let t = digit-here.0 in
+        let e = lowest-found a b i (passed i (omega arith) f) (omega arith) w (rw (pair-at i l) at (s (0, 0))) in
         rw (lt-ltb (lowest_common a b) (32 * length a) (omega arith)) (ap Some e)
 
   pub meets-shared : (r : Bool) → MatchBool r ((i : ℕ) × (i < length (zip a b)) × HoldsAt Sharing (zip a b) i)
       (AllWithin Parted (zip a b) 0 (length (zip a b))) → ((i : ℕ) → shared_at a b i < 2 ^ 32) → r ≡ meets a b
-  meets-shared true (i, l, s) w = sym (both-meets a b (32 * i + last_at a b i) (shared i l s (w i)))
+  meets-shared true (i, l, s) w = sym (both-meets a b (32 * i + last_at a b i) (digit-here i l s (w i)).1)
   meets-shared false f w = bool_cases (meets a b)
       (λ e. let r = meets-both a b e in absurd (false≢true (sym (none_shared f r.0) ∙ r.1))) sym

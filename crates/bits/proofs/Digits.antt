@@ -22,7 +22,8 @@ use mir.Syntax.{w32}
 use Rattle.std.specs.Prelude.{if◌then◌else◌}
 use Rattle.std.specs.Int.{bit_at}
 use Rattle.std.proofs.lemmas.Nat.Bits.{bit_at_and, bit_at_or, bit_at_xor, bit_at_lowest, bit_at-suc, bit_at-zero, bit_at-pow_same}
-use Rattle.std.proofs.lemmas.Nat.Bits.{bit_at-pow_other, bit_at-lt, bit_at_above, bit_at-trailing_zeros, same_from_bits, same_from_bits_below}
+use Rattle.std.proofs.lemmas.Nat.Bits.{bit_at-pow_other, bit_at-lt, bit_at_above, bit_at-trailing_zeros}
+use Rattle.std.proofs.lemmas.Nat.Bits.{same_from_bits, same_from_bits_below}
 use Rattle.meaning.specs.Plain.{xor}
 use Rattle.meaning.specs.Policy.{Set, holds}
 use Rattle.meaning.specs.Access.{number, bit_of}

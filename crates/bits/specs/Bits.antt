@@ -14,7 +14,8 @@
 --   none_from n ws      no number from n on is in
 --
 -- A union is `zip_with bit_or`, a difference `zip_with less_word`. What each does to the set is said in proofs/Members.antt.
-use Rattle.std.specs.Prelude.{ℕ, zero, suc, ◌-◌, ◌*◌, ◌/◌, ◌%◌, ◌^◌, ◌<◌, Bool, true, not, ◌&&◌, List, [], ◌∷◌, length, get_or, take, drop, set, replicate, ltb, if◌then◌else◌, Option, Some, None}
+use Rattle.std.specs.Prelude.{ℕ, zero, suc, ◌-◌, ◌*◌, ◌/◌, ◌%◌, ◌^◌, ◌<◌, Bool, true, not, ◌&&◌, List, [], ◌∷◌, length, get_or, take, drop, set, replicate}
+use Rattle.std.specs.Prelude.{ltb, if◌then◌else◌, Option, Some, None}
 use Rattle.std.specs.Int.Bits.{bit_and, bit_or, bit_xor}
 use Rattle.meaning.specs.Plain.{every, each, index_from, numbers, up_to}
 use Rattle.meaning.specs.Policy.{Set, meet}

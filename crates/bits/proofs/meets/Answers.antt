@@ -8,6 +8,7 @@ use Rattle.bits.proofs.meets.Goals as goal
 pub returns : goal.returns
 returns c = meets-shared _ _ _
     (cases_from_any c.any.new.self _ _ Sharing Parted c.any.ensures.ran
-    (YieldsList-from_zip (YieldsList-from_slice c.args.a.now (rw c.zip.ensures.first c.iter.ensures.rest)) (YieldsList-from_slice c.args.b.now cc))
+    (YieldsList-from_zip (YieldsList-from_slice c.args.a.now (rw c.zip.ensures.first c.iter.ensures.rest))
+    (YieldsList-from_slice c.args.b.now cc))
     (λ x q k. search (rules, tests)) (λ x q k. search (rules, tests)))
     (λ i. and_lt 32 _ _ (c.type_inv.a i).fits (c.type_inv.b i).fits)
