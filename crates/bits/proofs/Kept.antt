@@ -7,15 +7,16 @@
 -- Assumes nothing.
 use mathlib.Core.Path.{◌≡◌, refl, sym, ap, ◌∙◌}
 use mathlib.Core.Bool.{true, false}
-use mathlib.Core.List.{List, ◌∷◌}
+use mathlib.Core.List.{List}
 use Prim.Native.Nat.{ℕ, zero, suc, ◌+◌, ◌-◌, ◌*◌, ◌/◌, ◌%◌, ◌<◌, ◌≤◌, min}
-use native.Mathlib.Nat.{not-suc-le-zero, le_of_suc-le-suc, lt_of_lt_of_le, min-le_left, sub-zero}
+use native.Mathlib.Nat.{not-suc-le-zero, le_of_suc-le-suc, lt_of_lt_of_le, min-le_left}
 use native.Mathlib.Omega.{arith}
 use borrow.Author.Tests.{lt-ltb, le-ltb}
 use lib.Dec.{ltb, lit<}
 use lib.ListN.{length, get_or, take, drop, length-take, length-replicate, get_or-replicate, get_or-eq_default}
 use lib.Pow.{pow_mono}
-use lib.Seq.{get_or-take, get_or-drop, drop-drop}
+use lib.Seq.{get_or-take, get_or-drop, drop-drop, take_all}
+use Rattle.std.proofs.lemmas.List.{take-replicate, drop-replicate}
 use Rattle.meaning.specs.Policy.{Set, holds}
 use Rattle.meaning.specs.Access.{number, bit_of}
 use Rattle.bits.specs.Bits.{member, set_in, packed, full, Words, low_mask}
@@ -74,21 +75,14 @@ packed-set_in n ws w e =
     get_or-eq_default (set_in n ws) false (omega arith) ∙ sym (e i l)))
 
 -- ---- all numbers below n
-drop-full : (m n : ℕ) → drop m (full n) ≡ full (n - m)
-drop-full zero n = ap full (sym (sub-zero n))
-drop-full (suc m) zero = let e : 0 - suc m ≡ 0 = omega arith in ap full (sym e)
-drop-full (suc m) (suc n) = let e : suc n - suc m ≡ n - m = omega arith in drop-full m n ∙ ap full (sym e)
-
 take-full : (m n : ℕ) → take m (full n) ≡ full (min n m)
-take-full zero n = let e : min n 0 ≡ 0 = omega arith in ap full (sym e)
-take-full (suc m) zero = let e : min 0 (suc m) ≡ 0 = omega arith in ap full (sym e)
-take-full (suc m) (suc n) =
-    let e : min (suc n) (suc m) ≡ suc (min n m) = omega arith in
-    ap (λ (x : Set). true ∷ x) (take-full m n) ∙ ap full (sym e)
+take-full m n = below-cases n m
+    (λ h. let l = length-replicate n true in let e : n ≡ min n m = omega arith in take_all m (full n) (omega arith) ∙ ap full e)
+    (λ h. let e : m ≡ min n m = omega arith in take-replicate m n true h ∙ ap full e)
 
 pub full_at : (k n j : ℕ) → j < k → get_or (packed k (full n)) j 0 ≡ low_mask (min (n - 32 * j) 32)
 full_at k n j h =
-    packed-at k (full n) j h ∙ ap (λ (x : Set). number (take 32 x)) (drop-full (32 * j) n)
+    packed-at k (full n) j h ∙ ap (λ (x : Set). number (take 32 x)) (drop-replicate (32 * j) n true)
     ∙ ap number (take-full 32 (n - 32 * j)) ∙ number-full (min (n - 32 * j) 32)
 
 pub member-fill : (k n i : ℕ) → n ≤ 32 * k → member (packed k (full n)) i ≡ ltb i n

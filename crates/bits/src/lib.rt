@@ -48,7 +48,7 @@ pub fn minus_into(dst: &mut [u32], src: &[u32])
     requires { length dst.old ≡ length src.now }
     ensures { dst.new ≡ zip_with less_word dst.old src.now }
 {
-    // kept: a loop like that of union_into: one function over a closure for both has five clauses, and the two loops have none
+    // kept: apart from union_into: one function over a closure for both takes a ghost value and four clauses, 13 lines for 6
     for (i, d) in dst.iter_mut().enumerate() {
         *d ^= *d & src[i];
     }
