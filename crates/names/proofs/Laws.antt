@@ -3,18 +3,18 @@
 --   first-le       which is at most i
 --   first-own      and that row has its own number
 --   same_number    two rows have one number where their names read the same, and only there
--- Then one turn of the loop that writes them: written s items n d i is d with the first i numbers written.
+-- And a list of n numbers that are each right is the list of them (same-firsts).
 -- Assumes nothing.
 use Prim.Native.Nat.{ℕ, zero, suc, ◌+◌, ◌≤◌, ◌<◌}
 use native.Mathlib.Nat.{zero-add, add-zero}
-use native.Mathlib.Numerals.{add-one}
 use native.Mathlib.Omega.{arith}
 use mathlib.Core.Path.{◌≡◌, refl, sym, ap, ap₂, ◌∙◌}
 use mathlib.Core.List.{List, ◌++◌}
 use borrow.Author.Tests.{eqb-true, eq-eqb}
 use lib.Dec.{eqb}
-use lib.ListN.{length, get_or, take, drop, set, get_or-append}
-use lib.Seq.{paste-suc, take_all, take_at}
+use lib.ListN.{length, get_or, take, get_or-append}
+use lib.Seq.{take_at}
+use Rattle.std.proofs.lemmas.Grind.{same_number_lists}
 use Rattle.meaning.specs.Plain.{numbers, up_to, same_bytes}
 use Rattle.meaning.proofs.Lists.{same_test, same_bytes_lem, length-each, get_or-each}
 use Rattle.names.specs.Names.{bytes_at, first_as, firsts}
@@ -66,14 +66,7 @@ module _ (s items : List ℕ) (n : ℕ) where
         (λ t. eq-eqb (first_as s items i) (first_as s items j)
         (first-same s items i j (same_bytes_lem (bytes_at s items i) (bytes_at s items j) t)))
 
-  -- ---- the loop that writes them
-  abbrev pub written : List ℕ → ℕ → List ℕ
-  written d i = take i (firsts s items n) ++ drop i d
-
-  pub written-turn : (d : List ℕ) (i v : ℕ) → n ≤ length d → i < n → v ≡ first_as s items i → set (written d i) i v ≡ written d (i + 1)
-  written-turn d i v h l e =
-      let q = length-firsts in
-      rw (e ∙ sym (firsts_at i l), add-one) (simp zero-add at (paste-suc d 0 (firsts s items n) i 0 (omega arith) (omega arith)))
-
-  pub written-done : (d : List ℕ) (i : ℕ) → i ≡ n → written d i ≡ firsts s items n ++ drop n d
-  written-done d i e = let q = length-firsts in rw (e, take_all n (firsts s items n) (omega arith))
+  -- ---- the list of them, from each of them
+  pub same-firsts : (ids : List ℕ) → length ids ≡ n → ((k : ℕ) → k < n → get_or ids k 0 ≡ first_as s items k) → ids ≡ firsts s items n
+  same-firsts ids l e = let m = length-firsts in same_number_lists ids (firsts s items n) (omega arith)
+      (λ k h. let b : k < n = omega arith in e k b ∙ sym (firsts_at k b))

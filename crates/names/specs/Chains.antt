@@ -2,10 +2,11 @@
 --
 --   slot_of w             the slot of the word w; words that read the same have one slot
 --   slot_at s items i     the slot of the name of row i
+--   row_at x              the row to which the link x leads; none at 0
 --   link s items m h     the last of the first m rows that has the slot h and is the first with its name, plus 1; 0 where none is
 --   Heads, Nexts         what the two arrays hold when m rows are done: heads at each slot the link to its chain's last row; nexts at each row
 --                        the link to the one before it in its slot
-use Rattle.std.specs.Prelude.{ℕ, zero, suc, ◌+◌, ◌*◌, ◌%◌, ◌<◌, ◌≡◌, ◌&&◌, List, [], ◌∷◌, eqb, length, get_or, if◌then◌else◌}
+use Rattle.std.specs.Prelude.{ℕ, zero, suc, ◌+◌, ◌*◌, ◌%◌, ◌<◌, ◌≡◌, ◌&&◌, List, [], ◌∷◌, Option, Some, None, eqb, length, get_or, if◌then◌else◌}
 use Rattle.names.specs.Names.{bytes_at, first_as}
 
 abbrev pub slots : ℕ
@@ -24,6 +25,11 @@ slot_of w = slot_from 0 w
 
 abbrev pub slot_at : List ℕ → List ℕ → ℕ → ℕ
 slot_at s items i = slot_of (bytes_at s items i)
+
+-- a link is one more than the row to which it leads, and 0 leads to none
+abbrev pub row_at : ℕ → Option ℕ
+row_at zero = None
+row_at (suc j) = Some j
 
 unfoldable pub link : List ℕ → List ℕ → ℕ → ℕ → ℕ
 link s items zero h = 0

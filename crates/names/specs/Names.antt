@@ -4,8 +4,9 @@
 --   bytes_at s items i    the bytes of the name of row i in the text s, as far as the text goes
 --   reads_as s items i j  the names of rows j and i read the same
 --   first_as s items i    the first row whose name reads as that of row i: i itself where no row before it does
+--   earlier_as s items i  that row where it is before row i; none where row i is the first with its name
 --   firsts s items n     that number for each of the first n rows
-use Rattle.std.specs.Prelude.{ℕ, ◌+◌, ◌*◌, Bool, List, get_or, take, drop}
+use Rattle.std.specs.Prelude.{ℕ, ◌+◌, ◌*◌, ◌==◌, Bool, List, Option, Some, None, get_or, take, drop, if◌then◌else◌}
 use Rattle.meaning.specs.Plain.{each, index_from, up_to, same_bytes}
 
 unfoldable pub bytes_at : List ℕ → List ℕ → ℕ → List ℕ
@@ -16,6 +17,9 @@ reads_as s items i j = same_bytes (bytes_at s items j) (bytes_at s items i)
 
 unfoldable pub first_as : List ℕ → List ℕ → ℕ → ℕ
 first_as s items i = index_from (reads_as s items i) 0 (up_to i)
+
+abbrev pub earlier_as : List ℕ → List ℕ → ℕ → Option ℕ
+earlier_as s items i = let j = first_as s items i in if j == i then None else Some j
 
 unfoldable pub firsts : List ℕ → List ℕ → ℕ → List ℕ
 firsts s items n = each (first_as s items) (up_to n)

@@ -1,15 +1,15 @@
--- `names::first_places` meets its contract. The invariant: the arrays keep their lengths, `ids` has the first i numbers and then what it
--- had, and the chains are those of i rows. The measure is what is left of the rows. Assumes nothing.
-use Prim.Native.Nat.{◌-◌, ◌≤◌}
+-- `names::first_places` meets its contract. The invariant: the first i numbers are right, and the chains are those of i rows.
+-- Assumes nothing.
+use Prim.Native.Nat.{ℕ, ◌<◌}
 use mathlib.Core.Path.{◌≡◌}
-use lib.ListN.{length}
+use lib.ListN.{get_or}
+use Rattle.names.specs.Names.{first_as}
 use Rattle.names.specs.Chains.{Heads, Nexts}
-use Rattle.names.proofs.Laws.{written}
 use Rattle.names.proofs.first_places.Given as goal
 
 abbrev pub invariant-loop-i : goal.invariant-loop-i
-invariant-loop-i l = (l.i ≤ l.n) × (length l.ids ≡ length l.initial.ids) × (length l.nexts ≡ length l.initial.nexts) × (l.ids ≡ written l.text l.items l.n l.initial.ids l.i)
-    × Heads l.text l.items l.i l.heads × Nexts l.text l.items l.i l.nexts
-
-abbrev pub decreases-loop-i : goal.decreases-loop-i
-decreases-loop-i l = l.n - l.i
+invariant-loop-i l = record {
+  numbers : (k : ℕ) → k < l.i → get_or l.id-items k 0 ≡ first_as l.rows.text.now l.rows.items.now k;
+  heads : Heads l.rows.text.now l.rows.items.now l.i l.heads;
+  nexts : Nexts l.rows.text.now l.rows.items.now l.i l.nexts;
+}
