@@ -12,8 +12,7 @@ use mathlib.Core.Path.{◌≡◌, refl, sym, ap, ap₂, ◌∙◌}
 use mathlib.Core.List.{List, ◌++◌}
 use borrow.Author.Tests.{eqb-true, eq-eqb}
 use lib.Dec.{eqb}
-use lib.ListN.{length, get_or, take, get_or-append}
-use lib.Seq.{take_at}
+use lib.ListN.{length, get_or, get_or-append}
 use Rattle.std.proofs.lemmas.Grind.{same_number_lists}
 use Rattle.meaning.specs.Plain.{numbers, up_to, same_bytes}
 use Rattle.meaning.proofs.Lists.{same_test, same_bytes_lem, length-each, get_or-each}
@@ -43,9 +42,6 @@ module _ (s items : List ℕ) (n : ℕ) where
 
   -- ---- what the numbers say
   module _ (d ids : List ℕ) (e : ids ≡ firsts s items n ++ d) where
-    pub first-front : take n ids ≡ firsts s items n
-    first-front = rw e (take_at (firsts s items n) d n length-firsts)
-
     pub first-at : (i : ℕ) → i < n → get_or ids i 0 ≡ first_as s items i
     first-at i h = let l = length-firsts in rw e (get_or-append (firsts s items n) d 0 i (omega arith) ∙ firsts_at i h)
 
@@ -68,5 +64,6 @@ module _ (s items : List ℕ) (n : ℕ) where
 
   -- ---- the list of them, from each of them
   pub same-firsts : (ids : List ℕ) → length ids ≡ n → ((k : ℕ) → k < n → get_or ids k 0 ≡ first_as s items k) → ids ≡ firsts s items n
-  same-firsts ids l e = let m = length-firsts in same_number_lists ids (firsts s items n) (omega arith)
-      (λ k h. let b : k < n = omega arith in e k b ∙ sym (firsts_at k b))
+  same-firsts ids l e =
+      let m = length-firsts in
+      same_number_lists ids (firsts s items n) (omega arith) (λ k h. let b : k < n = omega arith in e k b ∙ sym (firsts_at k b))

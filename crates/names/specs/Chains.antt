@@ -4,8 +4,8 @@
 --   slot_at s items i     the slot of the name of row i
 --   row_at x              the row to which the link x leads; none at 0
 --   link s items m h     the last of the first m rows that has the slot h and is the first with its name, plus 1; 0 where none is
---   Heads, Nexts         what the two arrays hold when m rows are done: heads at each slot the link to its chain's last row; nexts at each row
---                        the link to the one before it in its slot
+--   Heads, Nexts         what the two arrays hold when m rows are done: heads at each slot the link to its chain's last row; nexts at each
+--                        row the link to the one before it in its slot
 use Rattle.std.specs.Prelude.{ℕ, zero, suc, ◌+◌, ◌*◌, ◌%◌, ◌<◌, ◌≡◌, ◌&&◌, List, [], ◌∷◌, Option, Some, None, eqb, length, get_or, if◌then◌else◌}
 use Rattle.names.specs.Names.{bytes_at, first_as}
 

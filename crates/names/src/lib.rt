@@ -74,7 +74,7 @@ impl<'a> Rows<'a> {
     }
 
     // The number of row i, of which all rows before are done. A name that is new is hung into the chain of its slot.
-    // kept: `heads` and `nexts` beside each other: no ghost field may stand beside a `&mut`, and clauses on a struct of both are one more.
+    // kept: `heads` and `nexts` apart: on a struct of both, clauses must say what stays of it, and a `find` by `&self` is not covered.
     fn place(self, i: usize, heads: &mut [u16; SLOTS], nexts: &mut [u16]) -> u16
         requires room { (i < 32768) × (4 * i + 1 < length self.items.now) × (i < length nexts.old) }
         requires chained { Heads self.text.now self.items.now i heads.old × Nexts self.text.now self.items.now i nexts.old }

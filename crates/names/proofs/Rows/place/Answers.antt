@@ -1,5 +1,5 @@
--- `names::Rows::place` meets its contract. A name that is known leaves the heads right (heads-kept); else row i is the new head (heads-hung).
--- Assumes nothing.
+-- `names::Rows::place` meets its contract. A name that is known leaves the heads right (heads-kept); else row i is the new head
+-- (heads-hung). Assumes nothing.
 use native.Mathlib.Omega.{arith}
 use mathlib.Core.Path.{refl}
 use Rattle.std.proofs.lemmas.Grind.{common_steps}
