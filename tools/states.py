@@ -297,9 +297,6 @@ pub const KINDS: u8 = {KINDS};
 // An entry for each of them.
 pub const ROW: usize = {KINDS};
 
-// The kind of a word `(`.
-pub const LPAREN: u8 = {OPEN};
-
 // States from 1 to this one stand within the parentheses of an expression.
 pub const LAST_INSIDE: u8 = {LAST_INSIDE};
 
@@ -314,14 +311,8 @@ pub const AFTER_CONSTRAIN: u8 = {ENDS[1]};
 // A row for each state.
 pub const TABLE_SIZE: usize = {len(states) * KINDS};
 
-pub type Next = [u8; TABLE_SIZE];
-
-pub const EDGE_COUNT: usize = {edge_count};
-
-pub type Edges = [usize; EDGE_COUNT];
-
 // The entries of the table that are not 0: 0xSSKKTT where a word of kind KK leads from state SS to state TT.
-pub const EDGES: Edges = [
+pub const EDGES: [usize; {edge_count}] = [
 {chr(10).join(entries)}
 ];
 """}

@@ -9,6 +9,7 @@ ghost use Rattle.std.specs.Int.Count.{count_trailing_zeros};
 ghost use Rattle.bits.specs.Bits.{member, packed, full, low_mask, insert, less_word, lowest_in_both, meets, none_from};
 
 // Whether i is in the set.
+#[tactic(auto, unfolding(crate::specs::Bits::member))]
 pub fn has(ws: &[u32], i: usize) -> bool
     requires { i < 32 * length ws.now }
     ensures { result ≡ member ws.now i }
@@ -25,6 +26,7 @@ pub fn bit(i: usize) -> u32
 }
 
 // Puts i into the set.
+#[tactic(auto, unfolding(crate::specs::Bits::insert))]
 pub fn put(ws: &mut [u32], i: usize)
     requires { i < 32 * length ws.old }
     ensures { ws.new ≡ insert ws.old i }

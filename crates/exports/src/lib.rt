@@ -3,9 +3,9 @@
 
 ghost use Rattle.std.specs.Prelude.{◌≡◌, length};
 ghost use Rattle.meaning.specs.Words.{words_of};
-ghost use Rattle.recogniser.specs.Refusal.{refusal_of};
+ghost use Rattle.recogniser.specs.Refusal.{refusal_of, number_in, place_in};
 
-// A refusal number and a place.
+// A refusal number and a place; 0 and 0 where there is no refusal. C reads it, so it stays a pair of numbers.
 #[repr(C)]
 #[derive(Clone, Copy)]
 pub struct Answer {
@@ -24,11 +24,16 @@ pub extern "C" fn kasimbur_count_words(text: &[u8]) -> usize
 // 0, or 2, 3 or 7 with the place.
 #[unsafe(no_mangle)]
 pub extern "C" fn kasimbur_recognise(text: &[u8]) -> Answer
-    ensures { (result.number ≡ (refusal_of text.now).number) × (result.place ≡ (refusal_of text.now).place) }
+    ensures { (result.number ≡ number_in (refusal_of text.now)) × (result.place ≡ place_in (refusal_of text.now)) }
 {
-    let r = recogniser::recognise(text);
-    Answer {
-        number: r.number,
-        place: r.place,
+    match recogniser::recognise(text) {
+        Ok(()) => Answer {
+            number: 0,
+            place: 0,
+        },
+        Err(refusal) => Answer {
+            number: refusal.number(),
+            place: refusal.place(),
+        },
     }
 }

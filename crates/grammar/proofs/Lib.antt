@@ -1,6 +1,6 @@
 -- a computed test over a list, and what it says of each element
 pub mod Entries
--- the entries of the table one by one, for `laid`
+-- the entries of the table one by one, for `Transitions::new`
 pub mod Edges
 -- a grammar with a hole
 pub mod Fill

@@ -1,100 +1,96 @@
 // The recogniser of the policy grammar (meaning/specs/Grammar.antt): a table of states and a count of open parentheses.
-// What is left of the grammar behind the words so far is `regex` of the state and the count. Nothing is left just in state 0: no
+// What is left of the grammar behind the words so far is `regex` of the state and the count. Where nothing is left there is no state: no
 // text of the grammar begins with these words, which is refusal 3.
 #![tactic(auto)]
 
 ghost use Rattle.std.specs.Prelude.{◌≡◌, ◌+◌, ◌<◌, ◌^◌};
 ghost use Rattle.meaning.specs.Grammar.{policy, nullable};
 ghost use Rattle.grammar.specs.Table.{state_count};
-ghost use Rattle.grammar.specs.States.{regex, next_table, edges, Stepped};
+ghost use Rattle.grammar.specs.States.{regex, next_table};
+
+use kinds::Kind;
 
 pub mod table; // the states, written by tools/states.py
 
-use table::{Edges, Next};
-
 // A state of the table, and how many more parentheses are open where it stands within those of an expression.
-#[derive(Clone, Copy)]
+#[derive(Clone, Copy, Debug, PartialEq, Eq)]
 pub struct State {
     pub s: u8,
     pub depth: usize,
+    ghost known: { s < state_count },
 }
 
-// The table of the entries that are lent.
-fn laid(list: &Edges) -> Next
-    requires { list.now ≡ edges }
-    ensures { result ≡ next_table }
-{
-    let mut next: Next = [0; table::TABLE_SIZE];
-    let mut i = 0;
-    while i < table::EDGE_COUNT {
-        let e = list[i];
-        next[e / 65536 * table::ROW + e / 256 % 256] = (e % 256) as u8;
-        i += 1;
+impl State {
+    // Before the first word: the whole grammar is left.
+    #[tactic(auto, using(crate::proofs::Laws::start))]
+    pub fn start() -> State
+        ensures { (regex result.s result.depth ≡ policy) × (result.depth ≡ 0) }
+    {
+        State {
+            s: table::START,
+            depth: 0,
+        }
     }
-    next
-}
 
-// The table that `step` goes by: to be made once and lent.
-pub fn next_table() -> Next
-    ensures { result ≡ next_table }
-{
-    let list = table::EDGES;
-    laid(&list)
-}
-
-// Before the first word: the whole grammar is left.
-pub fn start() -> State
-    ensures { (regex result.s result.depth ≡ policy) × (result.s < state_count) × (result.depth ≡ 0) }
-{
-    State {
-        s: table::START,
-        depth: 0,
+    // Whether the words so far are a whole text of the grammar.
+    #[tactic(auto, using(crate::proofs::Laws::accepts))]
+    pub fn accepting(self) -> bool
+        ensures { result ≡ nullable (regex self.s self.depth) }
+    {
+        matches!(self.s, table::AFTER_USER | table::AFTER_CONSTRAIN)
     }
 }
 
-// Behind one more word, of kind k: what is left there is what is left here behind it. No word has a kind from KINDS on: state 0.
-pub fn step(next: &Next, st: State, k: u8) -> State
-    requires { (next.now ≡ next_table) × (st.s < state_count) × (st.depth + 1 < 2 ^ 64) }
-    ensures { Stepped st.s st.depth k result.s result.depth }
-{
-    let beyond = k >= table::KINDS;
-    if beyond {
-        return State { s: 0, depth: 0 };
-    }
-    let s = st.s;
-    let depth = st.depth;
-    let n = next[s as usize * table::ROW + k as usize];
-    if s > table::LAST_INSIDE {
-        return State { s: n, depth: 0 };
-    }
-    if k == table::LPAREN {
-        return State {
-            s: n,
-            depth: depth + 1,
-        };
-    }
-    if n <= table::LAST_INSIDE {
-        return State { s: n, depth };
-    }
-    // the closing parenthesis: if it is not the last, it stands behind an operand of the expression around it
-    if depth == 0 {
-        return State { s: n, depth };
-    }
-    State {
-        s,
-        depth: depth - 1,
-    }
+// Where words lead: the table of the states, made once and lent.
+#[derive(Drop)]
+pub struct Transitions {
+    next: [u8; table::TABLE_SIZE],
+    ghost laid: { next ≡ next_table },
 }
 
-// Whether the words so far are a whole text of the grammar.
-pub fn accepting(st: State) -> bool
-    requires { st.s < state_count }
-    ensures { result ≡ nullable (regex st.s st.depth) }
-{
-    let s = st.s;
-    let after_user = s == table::AFTER_USER;
-    if after_user {
-        return true;
+impl Transitions {
+    ghost use Rattle.grammar.specs.Led.{Led};
+
+    // The table, laid out from its entries.
+    pub fn new() -> Transitions {
+        let mut next = [0; table::TABLE_SIZE];
+        for e in table::EDGES {
+            next[e / 65536 * table::ROW + e / 256 % 256] = (e % 256) as u8;
+        }
+        Transitions { next }
     }
-    s == table::AFTER_CONSTRAIN
+
+    // Behind one more word, of kind k: what is left there is what is left here behind it. No word has a kind from KINDS on.
+    pub fn step(&self, st: State, k: Kind) -> Option<State>
+        requires { st.depth + 1 < 2 ^ 64 }
+        ensures { Led st k result }
+    {
+        let beyond = k.0 >= table::KINDS;
+        if beyond {
+            return None;
+        }
+        let s = st.s;
+        let depth = st.depth;
+        let n = self.next[usize::from(s) * table::ROW + usize::from(k.0)];
+        if n == 0 {
+            return None;
+        }
+        if s > table::LAST_INSIDE {
+            return Some(State { s: n, depth: 0 });
+        }
+        if k == Kind::LPAREN {
+            return Some(State {
+                s: n,
+                depth: depth + 1,
+            });
+        }
+        // the closing parenthesis leads out; if it is not the last, it stands behind an operand of the expression around it
+        if n <= table::LAST_INSIDE || depth == 0 {
+            return Some(State { s: n, depth });
+        }
+        Some(State {
+            s,
+            depth: depth - 1,
+        })
+    }
 }

@@ -19,7 +19,7 @@ use Rattle.meaning.specs.Statements.{Seen, Item, Branch, Gathered, says, item_of
 use Rattle.words.specs.declared.Span.{Span}
 use Rattle.words.specs.Spans.{span_of}
 use Rattle.listing.specs.declared.Rows.{Rows}
-use Rattle.listing.specs.Listed.{entry, item_at, branch_of}
+use Rattle.listing.specs.Listed.{entry, item_at}
 use Rattle.listing.specs.Joined.{onto, joined_rows, Firsts, Inside}
 use Rattle.listing.specs.Answers.{Ended, ItemPut, StmtPut, RoomFor, WordPut}
 use Rattle.listing.proofs.Whole.{gathered, form-known, item-put, stmt-put}
@@ -63,7 +63,7 @@ module _ (st : Seen) (b : Branch) (x : Word) (g : Gathered) where
       go false = refl
 
 -- ---- the three answers: the arrays before, the statements behind `put_end`, and what that answered
-module _ (items stmts stmts₁ : List ℕ) (r q : Rows) (st : Seen) (w : Span) (room : RoomFor items stmts r w)
+module _ (items stmts stmts₁ : List ℕ) (r q : Rows) (st : Seen) (w : Span) (room : RoomFor stmts r w)
     (ended : Ended stmts stmts₁ r q st w.kind) where
   kinds : (x : Word) → w ≡ span_of x → w.kind ≡ x.kind
   unfolding span_of
@@ -105,8 +105,8 @@ module _ (items stmts stmts₁ : List ℕ) (r q : Rows) (st : Seen) (w : Span) (
         more_items = omega arith;
       }
 
-  -- ---- a statement begins, in the branch under the number c
-  module _ (c : ℕ) (l : List ℕ) (a : Rows) (put : StmtPut stmts₁ l q a w.start c) where
+  -- ---- a statement begins, in the branch b
+  module _ (b : Branch) (l : List ℕ) (a : Rows) (put : StmtPut stmts₁ l q a w.start b) where
     begin-firsts : Firsts l (q.statements + 1) q.items
     begin-firsts = record { first = λ j h. go j h (ltb j q.statements) refl }
       where
@@ -118,15 +118,15 @@ module _ (items stmts stmts₁ : List ℕ) (r q : Rows) (st : Seen) (w : Span) (
             let last : j ≡ q.statements = omega (arith, ltb-false j q.statements e) in
             rw last (omega (arith, put.row.third))
 
-    pub begin-word : begins w.kind ≡ true → WordPut items stmts items l r a st (branch_of c) w
+    pub begin-word : begins w.kind ≡ true → WordPut items stmts items l r a st b w
     begin-word h =
         rw put.rows
         (record {
           joins = λ s x g e t.
               let k = rw (kinds x e) at h in
-              formed s x (branch_of c) g e
-              ∙ rw (onto-begins st (branch_of c) x g k, known_kept x e (begins-ends st x.kind k), sym (starts-at x e))
-              (stmt-put s items stmts₁ l q.statements q.items w.start c put.row g _);
+              formed s x b g e
+              ∙ rw (onto-begins st b x g k, known_kept x e (begins-ends st x.kind k), sym (starts-at x e))
+              (stmt-put s items stmts₁ l q.statements q.items w.start b put.row g _);
           firsts = begin-firsts;
           inside = inside-kept;
           more_statements = omega (arith, ended.statements);

@@ -20,8 +20,9 @@ use lib.ListN.{length, get_or, set}
 use lib.Seq.{get_or-set_same, get_or-set_other}
 use Rattle.std.specs.Prelude.{if◌then◌else◌}
 use Rattle.meaning.specs.Plain.{each, up_to}
-use Rattle.meaning.specs.Statements.{Item, Statement, Gathered}
-use Rattle.listing.specs.Listed.{entry, item_at, items_from, branch_of, behind_items, stmt_at, listed}
+use Rattle.meaning.specs.Statements.{Item, Branch, Statement, Gathered}
+use Rattle.listing.specs.Branches.{branch_number, branch-number}
+use Rattle.listing.specs.Listed.{entry, item_at, items_from, behind_items, stmt_at, listed}
 use Rattle.listing.specs.Joined.{completed, joined_with, Firsts}
 use Rattle.listing.specs.Answers.{RowPut}
 use Rattle.listing.proofs.Numbers.{each_same, each_last}
@@ -144,7 +145,7 @@ pub all-put : (s items l : List ℕ) (m n f : ℕ) → joined_with s items l m n
 all-put s items l m n f = closed s items l m n f [] ∙ append-nil _
 
 -- ---- a statement that begins
-module _ (s items l l' : List ℕ) (m n at c : ℕ) (put : RowPut l l' m 0 at c n) where
+module _ (s items l l' : List ℕ) (m n at : ℕ) (b : Branch) (put : RowPut l l' m 0 at (branch_number b) n) where
   stmt-behind : (j : ℕ) → j < m → behind_items l' (suc m) n j ≡ behind_items l m n j
   stmt-behind j h = behind-inner l' (suc m) n j (omega arith) ∙ go (ltb (j + 1) m) refl
     where
@@ -162,12 +163,12 @@ module _ (s items l l' : List ℕ) (m n at c : ℕ) (put : RowPut l l' m 0 at c 
       (ap (items_from s items (entry l j 3)) (stmt-behind j h))
 
   stmt-last : (g : Gathered) → completed (stmt_at s items l' (suc m) n m) false g
-      ≡ record { form = g.form; at = at; branch = branch_of c; items = g.items }
+      ≡ record { form = g.form; at = at; branch = b; items = g.items }
   unfolding completed stmt_at
-  stmt-last g = rw (put.first, put.second, put.third, behind-last l' (suc m) n m (omega arith), items-none s items n)
+  stmt-last g = rw (put.first, put.second, branch-number, put.third, behind-last l' (suc m) n m (omega arith), items-none s items n)
 
   pub stmt-put : (g : Gathered) (f : ℕ)
-      → joined_with s items l m n true (gathered [] f (record { form = g.form; at = at; branch = branch_of c; items = g.items } ∷ g.rest))
+      → joined_with s items l m n true (gathered [] f (record { form = g.form; at = at; branch = b; items = g.items } ∷ g.rest))
       ≡ joined_with s items l' (m + 1) n false g
   unfolding joined_with listed
   stmt-put g f =

@@ -12,13 +12,13 @@ use Rattle.meaning.specs.Words.{Word, words_of}
 use Rattle.meaning.specs.Statements.{Seen, Item, Branch, Statement, Gathered, ends, form_at, step, branch_at, statements_of}
 use Rattle.words.specs.declared.Span.{Span}
 use Rattle.words.specs.Spans.{span_of}
-use Rattle.reading.specs.Seen.{seen_of}
 use Rattle.listing.specs.declared.Listed.{Listed}
 use Rattle.listing.specs.declared.Rows.{Rows}
-use Rattle.listing.specs.declared.Track.{Track}
+use Rattle.listing.specs.declared.carry.Track.{Track}
 use Rattle.listing.specs.declared.row.ItemRow.{ItemRow}
 use Rattle.listing.specs.declared.row.StmtRow.{StmtRow}
-use Rattle.listing.specs.Listed.{most, entry, item_at, items_from, branch_of, stmt_at, listed}
+use Rattle.listing.specs.Branches.{most, branch_number}
+use Rattle.listing.specs.Listed.{entry, item_at, items_from, stmt_at, listed}
 use Rattle.listing.specs.Joined.{onto, ifs_behind, joined_with, joined_rows, Firsts, Inside}
 
 -- ---- writing
@@ -45,10 +45,10 @@ pub record Ended (l l' : List ℕ) (r r' : Rows) (st : Seen) (k : ℕ) : Type 0 
   pub items : r'.items ≡ r.items
   pub firsts : (j : ℕ) → entry l' j 3 ≡ entry l j 3
 
--- the statement begins at the place p, in the branch under the number c
-pub record StmtPut (l l' : List ℕ) (r r' : Rows) (p c : ℕ) : Type 0 where
+-- the statement begins at the place p, in the branch b
+pub record StmtPut (l l' : List ℕ) (r r' : Rows) (p : ℕ) (b : Branch) : Type 0 where
   pub rows : r' ≡ record { statements = r.statements + 1; items = r.items; known = false }
-  pub row : RowPut l l' r.statements 0 p c r.items
+  pub row : RowPut l l' r.statements 0 p (branch_number b) r.items
 
 -- the item is the word w: its kind and its position are bytes
 pub record ItemPut (l l' : List ℕ) (r r' : Rows) (st : Seen) (w : Span) : Type 0 where
@@ -57,9 +57,7 @@ pub record ItemPut (l l' : List ℕ) (r r' : Rows) (st : Seen) (w : Span) : Type
   pub kind : w.kind < 256
   pub pos : st.pos < 256
 
-pub record RoomFor (items stmts : List ℕ) (r : Rows) (w : Span) : Type 0 where
-  pub size_items : length items ≡ 4 * most
-  pub size_stmts : length stmts ≡ 4 * most
+pub record RoomFor (stmts : List ℕ) (r : Rows) (w : Span) : Type 0 where
   pub row_items : r.items < most
   pub row_stmts : r.statements < most
   pub ordered : w.start ≤ w.end
@@ -76,9 +74,9 @@ pub record WordPut (items stmts items' stmts' : List ℕ) (r r' : Rows) (st : Se
   pub more_items : r'.items ≤ r.items + 1
 
 pub record Passed (t t' : Track) (k : ℕ) : Type 0 where
-  pub seen : seen_of t'.seen ≡ step (seen_of t.seen) k
+  pub seen : t'.seen ≡ step t.seen k
   pub ifs : t'.ifs ≡ ifs_behind t.ifs k
-  pub branch : branch_of t'.branch ≡ branch_at (seen_of t.seen) t.ifs (branch_of t.branch) k
+  pub branch : t'.branch ≡ branch_at t.seen t.ifs t.branch k
 
 pub record AllListed (s items stmts : List ℕ) (r : Listed) : Type 0 where
   pub same : statements_of (words_of s) ≡ listed s items stmts r.statements r.items
@@ -92,7 +90,7 @@ unfoldable pub item_of_row : List ℕ → ItemRow → Item
 item_of_row s r = record { kind = r.kind; at = r.start; text = take (r.end - r.start) (drop r.start s); pos = r.pos; sign = r.sign }
 
 unfoldable pub stmt_of_row : List ℕ → List ℕ → StmtRow → Statement
-stmt_of_row s items r = record { form = r.form; at = r.at; branch = branch_of r.branch; items = items_from s items r.first r.end }
+stmt_of_row s items r = record { form = r.form; at = r.at; branch = r.branch; items = items_from s items r.first r.end }
 
 -- for any text; one of n items inside a text of that size lies inside it
 pub record ItemRead (items : List ℕ) (i : ℕ) (r : ItemRow) : Type 0 where

@@ -1,3 +1,4 @@
+pub mod Branches
 pub mod Listed
 pub mod Joined
 pub mod Answers

@@ -6,19 +6,15 @@
 --
 --   entry l i q                    number q of row i of l
 --   item_at s items i               the item of row i, for the text s
---   branch_of c                     the branch under the number c: 0 outside ifs, 2 i + 1 in the first branch of if i, 2 i + 2 in its `else`
 --   behind_items stmts m n j        the number behind the last item of statement j, of m statements with n items
 --   stmt_at s items stmts m n j     statement j
 --   listed s items stmts m n       all statements
 --
 -- A kind, a position and a form are bytes: the readers take them so from any rows.
-use Rattle.std.specs.Prelude.{ℕ, ◌+◌, ◌-◌, ◌*◌, ◌/◌, ◌%◌, List, eqb, ltb, take, drop, get_or, if◌then◌else◌}
+use Rattle.std.specs.Prelude.{ℕ, ◌+◌, ◌-◌, ◌*◌, ◌/◌, ◌%◌, List, ltb, take, drop, get_or, if◌then◌else◌}
 use Rattle.meaning.specs.Plain.{each, numbers, up_to}
-use Rattle.meaning.specs.Statements.{Item, Branch, always, when_true, when_false, Statement}
-
--- the bytes of the longest text, and so the most rows of each kind
-abbrev pub most : ℕ
-most = 32768
+use Rattle.meaning.specs.Statements.{Item, Statement}
+use Rattle.listing.specs.Branches.{branch_of}
 
 abbrev pub entry : List ℕ → ℕ → ℕ → ℕ
 entry l i q = get_or l (4 * i + q) 0
@@ -36,9 +32,6 @@ item_at s items i =
 -- the items from one number up to another
 unfoldable pub items_from : List ℕ → List ℕ → ℕ → ℕ → List Item
 items_from s items a z = each (item_at s items) (numbers a (z - a))
-
-unfoldable pub branch_of : ℕ → Branch
-branch_of c = if eqb c 0 then always else if eqb (c % 2) 1 then when_true (c / 2) else when_false (c / 2 - 1)
 
 unfoldable pub behind_items : List ℕ → ℕ → ℕ → ℕ → ℕ
 behind_items stmts m n j = if ltb (j + 1) m then entry stmts (j + 1) 3 else n

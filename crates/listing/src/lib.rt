@@ -2,15 +2,16 @@
 // the rows by number, and none reads words. Nothing is refused here: a text of any bytes has its statements.
 #![tactic(auto)]
 
-ghost use Rattle.std.specs.Prelude.{◌≡◌, ◌≤◌, ◌*◌, length};
-ghost use Rattle.words.specs.Keys.{key_table};
-ghost use Rattle.listing.specs.Listed.{most};
+ghost use Rattle.std.specs.Prelude.{◌≡◌, ◌≤◌, length};
+ghost use Rattle.listing.specs.Branches.{most};
 ghost use Rattle.listing.specs.Answers.{AllListed};
 
-use reading::Seen;
-use reading::positions::NONE;
+use carry::Track;
+use words::Words;
+use words::keywords::Keywords;
 
 pub mod row; // rows of four numbers: put, and read as an item or a statement
+pub mod branch; // where a statement stands, as the number that a row has for it
 pub mod carry; // what is carried from word to word: the reading, the ifs, the branch
 pub mod put; // what a word puts into the rows
 
@@ -21,60 +22,44 @@ pub const MOST: usize = 32768;
 pub const ROOM: usize = row::WIDTH * MOST;
 
 // How many statements and items stand in the rows.
-#[derive(Clone, Copy)]
+#[derive(Clone, Copy, Debug, PartialEq, Eq)]
 pub struct Listed {
     pub statements: usize,
     pub items: usize,
 }
 
 // The rows so far, and whether the form of the last statement stands in its row.
-#[derive(Clone, Copy)]
+#[derive(Clone, Copy, Debug, PartialEq, Eq)]
 pub struct Rows {
     pub statements: usize,
     pub items: usize,
     pub known: bool,
 }
 
-// What is carried from word to word: the reading of a statement, the ifs begun, the number of the branch.
-#[derive(Clone, Copy)]
-pub struct Track {
-    pub seen: Seen,
-    pub ifs: usize,
-    pub branch: u16,
-}
-
 // Lists the statements of the text. What the arrays hold behind the rows is not said. The form of a statement that breaks off is 0.
-pub fn list_statements(
-    keys: &[u8; words::keywords::SIZE],
-    text: &[u8],
-    items: &mut [u16],
-    stmts: &mut [u16],
+pub fn list_statements<'a>(
+    keys: &'a Keywords,
+    text: &'a [u8],
+    items: &mut [u16; ROOM],
+    stmts: &mut [u16; ROOM],
 ) -> Listed
-    requires { (keys.now ≡ key_table) × (length text.now ≤ most) × (length items.old ≡ 4 * most) × (length stmts.old ≡ 4 * most) }
+    requires { length text.now ≤ most }
     ensures { AllListed text.now items.new stmts.new result }
 {
-    let mut at = 0;
-    let mut t = Track {
-        seen: reading::step::begun(NONE),
-        ifs: 0,
-        branch: 0,
-    };
-    let mut r = Rows {
+    let mut track = Track::new();
+    let mut rows = Rows {
         statements: 0,
         items: 0,
         known: true,
     };
-    loop {
-        let w = words::word_at(keys, text, at);
-        if w.kind == words::END {
-            put::put_form(stmts, r, 0);
-            return Listed {
-                statements: r.statements,
-                items: r.items,
-            };
-        }
-        r = put::put_word(items, stmts, r, t, w);
-        t = carry::next(t, w.kind);
-        at = w.end;
+    for w in Words::new(keys, text) {
+        let kind = w.kind;
+        rows.put_word(items, stmts, &track, w);
+        track.next(kind);
+    }
+    rows.put_form(stmts, None);
+    Listed {
+        statements: rows.statements,
+        items: rows.items,
     }
 }

@@ -1,105 +1,88 @@
 // What a word puts into the rows: the form of the statement that it ends, the row of a statement that it begins, or that of an item.
-ghost use Rattle.std.specs.Prelude.{◌≡◌, not, ◌&&◌, ◌*◌, ◌≤◌, ◌<◌, eqb, length};
+ghost use Rattle.std.specs.Prelude.{◌≡◌, not, ◌&&◌, ◌≤◌, ◌<◌, eqb};
+ghost use Rattle.std.specs.Option.{unwrap_or};
 ghost use Rattle.meaning.specs.Keywords as keywords;
 ghost use Rattle.meaning.specs.Keywords.{k_else};
-ghost use Rattle.reading.specs.Seen.{seen_of};
-ghost use Rattle.listing.specs.Listed.{most, branch_of};
+ghost use Rattle.listing.specs.Branches.{most};
 ghost use Rattle.listing.specs.Answers.{FormPut, Ended, ItemPut, StmtPut, RoomFor, WordPut};
 
-use crate::row::*;
-use crate::{Rows, Track};
+use crate::branch::Branch;
+use crate::carry::Track;
+use crate::row::{self, BYTE, put_row};
+use crate::{ROOM, Rows};
+use kinds::Kind;
 use reading::Seen;
-use reading::kinds::*;
-use reading::statements::*;
-use reading::step::starts;
 use words::Span;
 
 // A word of kind k begins a statement that is listed.
-fn begins(k: u8) -> bool
+fn begins(k: Kind) -> bool
     ensures { result ≡ (keywords.starts k && not (eqb k k_else)) }
 {
-    starts(k) & !(k == K_ELSE)
+    k.starts() & !matches!(k, Kind::ELSE)
 }
 
-// The form of the last statement, unless it is known or there is none.
-pub fn put_form(stmts: &mut [u16], r: Rows, form: u8)
-    requires { (length stmts.old ≡ 4 * most) × (r.statements ≤ most) }
-    ensures { FormPut stmts.old stmts.new r form }
-{
-    if r.known {
-        return;
+// kept: the two arrays are passed beside the rows: a struct of them all must say in each clause which references it keeps, and what
+// stays of the array that is not written.
+impl Rows {
+    // The form of the last statement, unless it is known or there is none.
+    pub fn put_form(self, stmts: &mut [u16; ROOM], form: Option<Kind>)
+        requires { self.statements ≤ most }
+        ensures { FormPut stmts.old stmts.new self (unwrap_or form 0) }
+    {
+        if self.known || self.statements == 0 {
+            return;
+        }
+        let form = form.unwrap_or(Kind::BAD);
+        row::put_form(stmts, self.statements - 1, u16::from(form.0));
     }
-    if r.statements == 0 {
-        return;
-    }
-    let at = WIDTH * (r.statements - 1);
-    stmts[at] = form as u16;
-}
 
-// The same at a word of kind k, if that ends the statement.
-fn put_end(stmts: &mut [u16], r: Rows, st: Seen, k: u8) -> Rows
-    requires { (length stmts.old ≡ 4 * most) × (r.statements ≤ most) }
-    ensures { Ended stmts.old stmts.new r result (seen_of st) k }
-{
-    if ends(st, k) {
-        put_form(stmts, r, form_at(st, k));
-        return Rows {
-            statements: r.statements,
-            items: r.items,
-            known: true,
-        };
+    // The same at a word of kind k, if that ends the statement.
+    fn put_end(&mut self, stmts: &mut [u16; ROOM], st: Seen, k: Kind)
+        requires { self.old.statements ≤ most }
+        ensures { Ended stmts.old stmts.new self.old self.new st k }
+    {
+        if st.ends(k) {
+            self.put_form(stmts, st.form_at(k));
+            self.known = true;
+        }
     }
-    r
-}
 
-// A statement that begins at `at`: its form is not known, and its items are those that come.
-fn put_stmt(stmts: &mut [u16], r: Rows, at: usize, branch: u16) -> Rows
-    requires { (length stmts.old ≡ 4 * most) × (r.statements < most) × (r.items < most) × (at ≤ most) }
-    ensures { StmtPut stmts.old stmts.new r result at branch }
-{
-    put_row(stmts, r.statements, 0, at as u16, branch, r.items as u16);
-    Rows {
-        statements: r.statements + 1,
-        items: r.items,
-        known: false,
+    // A statement that begins at `at`: its form is not known, and its items are those that come.
+    #[tactic(auto, using(crate::specs::Branches::numbers))]
+    fn put_stmt(&mut self, stmts: &mut [u16; ROOM], at: usize, branch: Branch)
+        requires { (self.old.statements < most) × (self.old.items < most) × (at ≤ most) }
+        ensures { StmtPut stmts.old stmts.new self.old self.new at branch }
+    {
+        let row = [0, at as u16, branch.0, self.items as u16];
+        put_row(stmts, self.statements, row);
+        self.statements += 1;
+        self.known = false;
     }
-}
 
-// The word as an item of the open statement.
-fn put_item(items: &mut [u16], r: Rows, st: Seen, w: Span) -> Rows
-    requires { (length items.old ≡ 4 * most) × (r.items < most) × (w.start ≤ w.end) × (w.end ≤ most) }
-    ensures { ItemPut items.old items.new r result (seen_of st) w }
-{
-    let length = w.end - w.start;
-    let kind = w.kind as u16 + BYTE * st.sign as u16;
-    put_row(
-        items,
-        r.items,
-        w.start as u16,
-        length as u16,
-        kind,
-        st.pos as u16,
-    );
-    Rows {
-        statements: r.statements,
-        items: r.items + 1,
-        known: r.known,
+    // The word as an item of the open statement.
+    fn put_item(&mut self, items: &mut [u16; ROOM], st: Seen, w: Span)
+        requires { (self.old.items < most) × (w.start ≤ w.end) × (w.end ≤ most) }
+        ensures { ItemPut items.old items.new self.old self.new st w }
+    {
+        let length = w.end - w.start;
+        let kind = u16::from(w.kind.0) + BYTE * u16::from(st.sign.0);
+        let row = [w.start as u16, length as u16, kind, u16::from(st.pos.0)];
+        put_row(items, self.items, row);
+        self.items += 1;
     }
-}
 
-// Puts a word in: the form of the statement that it ends, and its row, if it begins a statement or is an item.
-pub fn put_word(items: &mut [u16], stmts: &mut [u16], r: Rows, t: Track, w: Span) -> Rows
-    requires { RoomFor items.old stmts.old r w }
-    ensures { WordPut items.old stmts.old items.new stmts.new r result
-        (seen_of t.seen) (branch_of t.branch) w }
-{
-    let st = t.seen;
-    let q = put_end(stmts, r, st, w.kind);
-    if begins(w.kind) {
-        return put_stmt(stmts, q, w.start, t.branch);
+    // Puts a word in: the form of the statement that it ends, and its row, if it begins a statement or is an item.
+    pub fn put_word(&mut self, items: &mut [u16; ROOM], stmts: &mut [u16; ROOM], t: &Track, w: Span)
+        requires { RoomFor stmts.old self.old w }
+        ensures { WordPut items.old stmts.old items.new stmts.new self.old self.new t.now.seen t.now.branch w }
+    {
+        let st = t.seen;
+        let k = w.kind;
+        self.put_end(stmts, st, k);
+        if begins(k) {
+            self.put_stmt(stmts, w.start, t.branch);
+        } else if st.says(k) {
+            self.put_item(items, st, w);
+        }
     }
-    if says(st, w.kind) {
-        return put_item(items, q, st, w);
-    }
-    q
 }

@@ -1,7 +1,13 @@
 // Rows of four numbers in a lent array: one is put in, or read as an item or as a statement.
-ghost use Rattle.std.specs.Prelude.{◌≡◌, ◌+◌, ◌*◌, ◌<◌, ◌≤◌, length};
-ghost use Rattle.listing.specs.Listed.{most, behind_items};
+ghost use Rattle.std.specs.Prelude.{◌≡◌, ◌+◌, ◌*◌, ◌<◌, ◌≤◌, length, set, get_or};
+ghost use Rattle.listing.specs.Branches.{most};
+ghost use Rattle.listing.specs.Listed.{behind_items};
 ghost use Rattle.listing.specs.Answers.{RowPut, ItemRead, StmtRead};
+
+use crate::branch::Branch;
+use crate::{Listed, ROOM};
+use kinds::Kind;
+use reading::positions::{Position, Sign};
 
 // Numbers in a row.
 pub const WIDTH: usize = 4;
@@ -10,90 +16,94 @@ pub const WIDTH: usize = 4;
 pub const BYTE: u16 = 256;
 
 // Puts a row in.
-pub fn put_row(l: &mut [u16], i: usize, a: u16, b: u16, c: u16, d: u16)
-    requires { (length l.old ≡ 4 * most) × (i < most) }
-    ensures { RowPut l.old l.new i a b c d }
+pub fn put_row(l: &mut [u16; ROOM], i: usize, row: [u16; WIDTH])
+    requires { i < most }
+    ensures { RowPut l.old l.new i (get_or row 0 0) (get_or row 1 0) (get_or row 2 0) (get_or row 3 0) }
 {
     let at = WIDTH * i;
-    l[at] = a;
-    l[at + 1] = b;
-    l[at + 2] = c;
-    l[at + 3] = d;
+    l[at] = row[0];
+    l[at + 1] = row[1];
+    l[at + 2] = row[2];
+    l[at + 3] = row[3];
+}
+
+// Puts another form into the row of a statement.
+pub fn put_form(l: &mut [u16; ROOM], i: usize, form: u16)
+    requires { i < most }
+    ensures put { l.new ≡ set l.old (4 * i) form }
+    ensures size { length l.old ≡ 4 * most }
+{
+    l[WIDTH * i] = form;
 }
 
 // An item as its row has it: its first byte, the place behind its last, its kind, what it stands behind, its position.
-#[derive(Clone, Copy)]
+#[derive(Clone, Copy, Debug)]
 pub struct ItemRow {
     pub start: usize,
     pub end: usize,
-    pub kind: u8,
-    pub sign: u8,
-    pub pos: u8,
+    pub kind: Kind,
+    pub sign: Sign,
+    pub pos: Position,
 }
 
-// A statement as its row has it: its form, its place, the number of its branch, its first item and the one behind its last.
-#[derive(Clone, Copy)]
+// A statement as its row has it: its form, its place, its branch, its first item and the one behind its last.
+#[derive(Clone, Copy, Debug)]
 pub struct StmtRow {
-    pub form: u8,
+    pub form: Kind,
     pub at: usize,
-    pub branch: u16,
+    pub branch: Branch,
     pub first: usize,
     pub end: usize,
 }
 
-// The number to count with.
-fn wide(x: u16) -> usize
-    ensures { (result ≡ x) × (result < 65536) }
-{
-    x as usize
-}
-
 // Item `i`.
-pub fn item_at(items: &[u16], i: usize) -> ItemRow
-    requires { (length items.now ≡ 4 * most) × (i < most) }
+#[tactic(auto, unfolding(crate::specs::Answers::item_of_row, crate::specs::Listed::item_at))]
+pub fn item_at(items: &[u16; ROOM], i: usize) -> ItemRow
+    requires { i < most }
     ensures { ItemRead items.now i result }
 {
     let at = WIDTH * i;
-    let start = wide(items[at]);
-    let length = wide(items[at + 1]);
+    let start = usize::from(items[at]);
+    let length = usize::from(items[at + 1]);
     let kind = items[at + 2];
     let pos = items[at + 3];
     ItemRow {
         start,
         end: start + length,
-        kind: (kind % BYTE) as u8,
-        sign: (kind / BYTE) as u8,
-        pos: (pos % BYTE) as u8,
+        kind: Kind((kind % BYTE) as u8),
+        sign: Sign((kind / BYTE) as u8),
+        pos: Position((pos % BYTE) as u8),
     }
 }
 
-// The number behind the last item of statement `j`.
-fn behind_items(stmts: &[u16], m: usize, n: usize, j: usize) -> usize
-    requires { (length stmts.now ≡ 4 * most) × (m ≤ most) × (j < m) }
-    ensures { result ≡ behind_items stmts.now m n j }
-{
-    let next = j + 1;
-    if next < m {
-        return wide(stmts[WIDTH * next + 3]);
+impl Listed {
+    // The number behind the last item of statement `j`.
+    #[tactic(auto, unfolding(crate::specs::Listed::behind_items))]
+    fn behind_items(self, stmts: &[u16; ROOM], j: usize) -> usize
+        requires { (self.statements ≤ most) × (j < self.statements) }
+        ensures { result ≡ behind_items stmts.now self.statements self.items j }
+    {
+        let next = j + 1;
+        if next < self.statements {
+            usize::from(stmts[WIDTH * next + 3])
+        } else {
+            self.items
+        }
     }
-    n
-}
 
-// Statement `j` of `m` statements with `n` items.
-pub fn stmt_at(stmts: &[u16], m: usize, n: usize, j: usize) -> StmtRow
-    requires { (length stmts.now ≡ 4 * most) × (m ≤ most) × (j < m) }
-    ensures { StmtRead stmts.now m n j result }
-{
-    let at = WIDTH * j;
-    let form = stmts[at];
-    let place = wide(stmts[at + 1]);
-    let branch = stmts[at + 2];
-    let first = wide(stmts[at + 3]);
-    StmtRow {
-        form: (form % BYTE) as u8,
-        at: place,
-        branch,
-        first,
-        end: behind_items(stmts, m, n, j),
+    // Statement `j`.
+    #[tactic(auto, unfolding(crate::specs::Answers::stmt_of_row, crate::specs::Listed::stmt_at, crate::specs::Listed::behind_items))]
+    pub fn stmt_at(self, stmts: &[u16; ROOM], j: usize) -> StmtRow
+        requires { (self.statements ≤ most) × (j < self.statements) }
+        ensures { StmtRead stmts.now self.statements self.items j result }
+    {
+        let at = WIDTH * j;
+        StmtRow {
+            form: Kind((stmts[at] % BYTE) as u8),
+            at: usize::from(stmts[at + 1]),
+            branch: Branch(stmts[at + 2]),
+            first: usize::from(stmts[at + 3]),
+            end: self.behind_items(stmts, j),
+        }
     }
 }

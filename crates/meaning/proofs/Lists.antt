@@ -15,6 +15,7 @@ use borrow.Author.Tests.{eqb-true, eqb-false, eq-eqb}
 use lib.Dec.{eqb}
 use lib.ListN.{length, get_or}
 use Rattle.std.specs.Prelude.{if◌then◌else◌}
+use Rattle.std.specs.Str.{bytes_eq}
 use Rattle.meaning.specs.Plain.{any, keep, each, joined, index_from, numbers, up_to, same_bytes, Spot, nowhere, at, or_else, first_at}
 
 -- ---- truth values
@@ -63,6 +64,13 @@ same_bytes_lem (a ∷ x) (b ∷ y) e =
 pub bytes_same : (x : List ℕ) → same_bytes x x ≡ true
 bytes_same [] = refl
 bytes_same (a ∷ x) = rw (eq-eqb a a refl) (bytes_same x)
+
+-- what `==` of two slices says
+pub bytes_eq-same : (x y : List ℕ) → bytes_eq x y ≡ same_bytes x y
+bytes_eq-same [] [] = refl
+bytes_eq-same [] (b ∷ y) = refl
+bytes_eq-same (a ∷ x) [] = refl
+bytes_eq-same (a ∷ x) (b ∷ y) = rw (bytes_eq-same x y) (bool_cases (eqb a b) (λ t. rw t) (λ t. rw t))
 
 -- ---- elements
 pub data Among {A : Type 0} (a : A) : List A → Type 0 where

@@ -38,6 +38,7 @@ pub struct Rows<'a> {
 
 impl<'a> Rows<'a> {
     // The name of row i.
+    #[tactic(auto, unfolding(crate::specs::Names::bytes_at))]
     fn name(self, i: usize) -> &'a [u8]
         requires { 4 * i + 1 < length self.items.now }
         ensures { result.now ≡ bytes_at self.entry.text.now self.entry.items.now i }
@@ -49,6 +50,7 @@ impl<'a> Rows<'a> {
     }
 
     // Whether the name of row i reads as the word.
+    #[tactic(auto, using(crate::proofs::Bytes::slices))]
     pub fn reads(self, i: usize, word: &[u8]) -> bool
         requires { 4 * i + 1 < length self.items.now }
         ensures { result ≡ same_bytes (bytes_at self.entry.text.now self.entry.items.now i) word.now }

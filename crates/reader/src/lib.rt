@@ -5,11 +5,10 @@
 
 ghost use Rattle.std.specs.Prelude.{◌≡◌};
 ghost use Rattle.meaning.specs.Words.{word_at, end_of};
-ghost use Rattle.words.specs.Keys.{key_table};
 ghost use Rattle.words.specs.Spans.{span_of};
 
 use words::Span;
-use words::keywords::SIZE;
+use words::keywords::Keywords;
 
 // A text and the place reached in it.
 #[derive(Clone, Copy)]
@@ -26,9 +25,8 @@ impl<'a> WordReader<'a> {
         WordReader { text, at: 0 }
     }
 
-    // The word at or behind the place reached, with the keywords' table lent.
-    pub fn word(self, keys: &[u8; SIZE]) -> Span
-        requires { keys.now ≡ key_table }
+    // The word at or behind the place reached, with the keywords lent.
+    pub fn word(self, keys: &Keywords) -> Span
         ensures { result ≡ span_of (word_at self.entry.text.now self.entry.at) }
     {
         words::word_at(keys, self.text, self.at)
@@ -38,24 +36,20 @@ impl<'a> WordReader<'a> {
     pub fn advanced(self, at: usize) -> WordReader<'a>
         ensures { (result.text ≡ self.entry.text) × (result.at ≡ at) }
     {
-        WordReader {
-            text: self.text,
-            at,
-        }
+        WordReader { at, ..self }
     }
 }
 
-// The first word of a text, with the keywords' table lent.
-pub fn first_of(keys: &[u8; SIZE], text: &[u8]) -> Span
-    requires { keys.now ≡ key_table }
+// The first word of a text, with the keywords lent.
+pub fn first_of(keys: &Keywords, text: &[u8]) -> Span
     ensures { result ≡ span_of (word_at text.now 0) }
 {
     WordReader::new(text).word(keys)
 }
 
-// The word behind the first, by a reader that goes on where it stopped, with the keywords' table lent.
-pub fn second_of(keys: &[u8; SIZE], text: &[u8]) -> Span
-    requires { keys.now ≡ key_table }
+// The word behind the first, by a reader that goes on where it stopped, with the keywords lent.
+#[tactic(auto, unfolding(words::specs::Spans::span_of))]
+pub fn second_of(keys: &Keywords, text: &[u8]) -> Span
     ensures { result ≡ span_of (word_at text.now (end_of (word_at text.now 0))) }
 {
     let reader = WordReader::new(text);
@@ -67,7 +61,7 @@ pub fn second_of(keys: &[u8; SIZE], text: &[u8]) -> Span
 pub fn first_word(text: &[u8]) -> Span
     ensures { result ≡ span_of (word_at text.now 0) }
 {
-    let keys = words::keywords::table();
+    let keys = Keywords::new();
     first_of(&keys, text)
 }
 
@@ -75,6 +69,6 @@ pub fn first_word(text: &[u8]) -> Span
 pub fn second_word(text: &[u8]) -> Span
     ensures { result ≡ span_of (word_at text.now (end_of (word_at text.now 0))) }
 {
-    let keys = words::keywords::table();
+    let keys = Keywords::new();
     second_of(&keys, text)
 }

@@ -1,82 +1,45 @@
 -- What `count` asks of the counts, and that a loop over the words keeps it:
 --
---   count-below    every word counts for one of the 14 totals
---   room-none      there is room at the start
---   room_next      a word raises no total by more than one; if it goes past no size, the statement's own count stays within 40
---   room_most      room for n is room for more
+--   room-none    there is room at the start
+--   room_next    a word raises no total by more than one; if it goes past no size, the statement's own count stays within 40
+--   room_most    room for n is room for more
 -- Assumes nothing.
-use Prim.Native.Nat.{ℕ, zero, suc, ◌+◌, ◌≤◌, ◌<◌}
+use Prim.Native.Nat.{ℕ, ◌+◌, ◌≤◌, ◌<◌}
 use native.Mathlib.Omega.{arith}
-use mathlib.Core.Path.{◌≡◌, refl, sym}
-use mathlib.Core.Bool.{Bool, true, false, true≢false, ◌&&◌, ◌||◌}
-use mathlib.Core.List.{List, [], ◌∷◌}
-use lib.Dec.{eqb, ltb, lit<}
-use lib.ListN.{get_or, set, replicate, length}
-use borrow.Author.Tests.{lt-ltb, ltb-false, eqb-false}
+use Rattle.std.proofs.lemmas.Grind.{common_steps}
+use mathlib.Core.Path.{◌≡◌}
+use mathlib.Core.Bool.{Bool, false, ◌&&◌}
+use mathlib.Core.List.{List}
+use lib.Dec.{eqb, ltb}
+use lib.ListN.{get_or, set, replicate}
 use Rattle.std.specs.Prelude.{if◌then◌else◌}
 use Rattle.meaning.specs.Words.{Word}
-use Rattle.meaning.specs.Keywords.{starts, k_name, k_lparen}
-use Rattle.meaning.specs.Statements.{Seen, of_e}
-use Rattle.meaning.specs.Sizes.{Counts, no_counts, name_count, form_count, count_of, own_limit, counted, exceeds, expression_words, longest_name, nested_parentheses}
-use Rattle.reading.specs.Counts.{Room, past_total}
-
--- ---- numbers of a definition by cases
-either-below : (b : Bool) (x y n : ℕ) → x < n → y < n → (if b then x else y) < n
-either-below true x y n p q = p
-either-below false x y n p q = q
-
-name_below : (k p : ℕ) → name_count k p < 14
-unfolding name_count
-name_below k p = search (either-below, lit<, tt) depth 16
-
-form-below : (f : ℕ) → form_count f < 14
-unfolding form_count
-form-below f = search (either-below, lit<, tt) depth 16
-
-pub count-below : (st : Seen) (k : ℕ) → count_of st k < 14
-unfolding count_of
-count-below st k = search (either-below, name_below, form-below, lit<, tt) depth 16
-
-limit-below : (st : Seen) (k : ℕ) → own_limit st k < expression_words + 1
-unfolding own_limit
-limit-below st k = search (either-below, lit<, tt) depth 16
+use Rattle.meaning.specs.Keywords.{starts}
+use Rattle.meaning.specs.Statements.{Seen}
+use Rattle.meaning.specs.Sizes.{Counts, no_counts, count_of, own_limit, counted, exceeds, expression_words}
+use Rattle.reading.specs.Counts.{Room}
 
 -- ---- the totals
 one_more : (l : List ℕ) (j i : ℕ) → get_or (set l j (get_or l j 0 + 1)) i 0 ≤ get_or l i 0 + 1
-one_more [] j i = omega arith
-one_more (x ∷ l) zero zero = omega arith
-one_more (x ∷ l) zero (suc i) = omega arith
-one_more (x ∷ l) (suc j) zero = omega arith
-one_more (x ∷ l) (suc j) (suc i) = one_more l j i
+one_more l j i = grind (arith, common_steps)
 
 zeros : (n i : ℕ) → get_or (replicate n 0) i 0 ≤ 0
-zeros zero i = omega arith
-zeros (suc n) zero = omega arith
-zeros (suc n) (suc i) = zeros n i
+zeros n i = grind (arith, common_steps)
 
--- ---- the statement's own count: o before the word, whose limit is l
-own-kept : (b z : Bool) (l o : ℕ) → z ≡ eqb l 0 → l < expression_words + 1 → o ≤ expression_words
-    → (ltb 0 l && ltb l (if b then 0 else if z then o else o + 1)) ≡ false
-    → (if b then 0 else if z then o else o + 1) ≤ expression_words
-own-kept true z l o e p q h = omega arith
-own-kept false true l o e p q h = q
-own-kept false false l o e p q h =
-    let some : l ≡ 0 → ⊥ = eqb-false l 0 (sym e) in
-    let within : ltb l (o + 1) ≡ false = rw (lt-ltb 0 l (omega arith), ◌&&◌) at h in
-    omega (arith, ltb-false l (o + 1) within)
-
-third : (a b c d : Bool) → (a || b || c || d) ≡ false → c ≡ false
-third false false false d h = refl
-third false false true d h = h
-third false true c d h = absurd (true≢false h)
-third true b c d h = absurd (true≢false h)
+-- ---- the statement's own count: o before the word
+limit-below : (st : Seen) (k : ℕ) → own_limit st k < expression_words + 1
+unfolding own_limit
+limit-below st k = grind (arith, common_steps)
 
 own-within : (st : Seen) (w : Word) (c : Counts) → exceeds st w c ≡ false
     → (ltb 0 (own_limit st w.kind) && ltb (own_limit st w.kind) c.own) ≡ false
 unfolding exceeds
-own-within st w c h =
-    third (eqb w.kind k_name && ltb longest_name (length w.text)) (past_total c.totals (count_of st w.kind)) _
-    (of_e st w.kind && eqb w.kind k_lparen && eqb st.depth nested_parentheses) h
+own-within st w c h = grind (arith, common_steps)
+
+own-kept : (b : Bool) (l o : ℕ) → l < expression_words + 1 → o ≤ expression_words
+    → (ltb 0 l && ltb l (if b then 0 else if eqb l 0 then o else o + 1)) ≡ false
+    → (if b then 0 else if eqb l 0 then o else o + 1) ≤ expression_words
+own-kept b l o p q h = grind (arith, common_steps)
 
 -- ---- room
 pub room-none : Room 0 no_counts
@@ -95,6 +58,6 @@ room_next {c = c} st w r e h =
     (record {
       totals = λ i. omega (arith, one_more c.totals (count_of st w.kind) i, r.totals i);
       own =
-          own-kept (starts w.kind) (eqb (own_limit st w.kind) 0) (own_limit st w.kind) c.own refl
-          (limit-below st w.kind) r.own (own-within st w _ (rw e at h));
+          own-kept (starts w.kind) (own_limit st w.kind) c.own (limit-below st w.kind) r.own
+          (own-within st w _ (rw e at h));
     })

@@ -1,34 +1,64 @@
-// The positions in a statement and what a name stands behind, under the names of meaning's Statements.
-pub const P_FIRST: u8 = 0;
+// The positions in a statement and what a name stands behind, under the names of meaning's Statements: numbers with types of their own.
+// A position is any byte: it is counted up behind each part, and the functions of this crate answer for each.
+ghost use Rattle.std.specs.Prelude.{◌≡◌, ℕ};
 
-pub const P_SECOND: u8 = 1;
+use std::marker::Model;
 
-pub const P_THIRD: u8 = 2;
+// A position in a statement. Clauses read it as its number.
+#[derive(Clone, Copy, Debug, PartialEq, Eq, PartialOrd, Ord)]
+pub struct Position(pub u8);
 
-pub const P_FOURTH: u8 = 3;
+impl Model for Position {
+    ghost Value = { ℕ };
 
-pub const P_CLASS: u8 = 4;
+    ghost view = { λ p. p.0 };
 
-pub const P_OVER: u8 = 9;
+    ghost inverse = { λ n. record { 0 = n } };
+}
 
-pub const P_TEST: u8 = 10;
+impl Position {
+    pub const FIRST: Position = Position(0);
 
-pub const P_USERS: u8 = 11;
+    pub const SECOND: Position = Position(1);
 
-pub const P_ROLES: u8 = 12;
+    pub const THIRD: Position = Position(2);
 
-pub const P_TYPES: u8 = 13;
+    pub const FOURTH: Position = Position(3);
 
-pub const P_BEHIND: u8 = 14;
+    pub const CLASS: Position = Position(4);
 
-pub const PLAIN: u8 = 0;
+    // Further parts are counted no further than this.
+    pub const OVER: Position = Position(9);
 
-pub const MINUS: u8 = 1;
+    // In an expression, and in the rest of a comparison of users, roles or types.
+    pub const TEST: Position = Position(10);
 
-pub const TILDE: u8 = 2;
+    pub const USERS: Position = Position(11);
 
-// The keyword outside a statement, and the form of one that is not whole.
-pub const NONE: u8 = 0;
+    pub const ROLES: Position = Position(12);
 
-// Open parentheses are counted no further than this.
-pub const DEEPEST: u8 = 63;
+    pub const TYPES: Position = Position(13);
+
+    // Behind the expression of an if.
+    pub const BEHIND: Position = Position(14);
+}
+
+// What a name stands behind: nothing, `-` or `~`. Clauses read it as its number.
+#[derive(Clone, Copy, Debug, PartialEq, Eq)]
+pub struct Sign(pub u8);
+
+impl Model for Sign {
+    ghost Value = { ℕ };
+
+    ghost view = { λ s. s.0 };
+
+    ghost inverse = { λ n. record { 0 = n } };
+}
+
+impl Sign {
+    pub const PLAIN: Sign = Sign(0);
+
+    pub const MINUS: Sign = Sign(1);
+
+    pub const TILDE: Sign = Sign(2);
+}

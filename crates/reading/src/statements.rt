@@ -1,75 +1,69 @@
 // What a word says in its statement, and what the statement is, from the reading state and the word's kind: meaning's Statements.
 ghost use Rattle.std.specs.Prelude.{◌≡◌};
 ghost use Rattle.meaning.specs.Statements as meaning;
-ghost use Rattle.reading.specs.Seen.{seen_of};
+ghost use Rattle.kinds.specs.Kinds.{unless_none};
 
 use crate::Seen;
-use crate::kinds::*;
-use crate::positions::*;
-use crate::step::{in_e, starts};
+use crate::positions::Position;
+use kinds::Kind;
 
-// Whether the word is one of an expression; an if's own pair of parentheses is not.
-pub fn of_e(st: Seen, k: u8) -> bool
-    ensures { result ≡ meaning.of_e (seen_of st) k }
-{
-    let own = (st.kw == K_IF) & (st.pos == P_TEST) & (k == K_RPAREN) & (st.depth == 0);
-    in_e(st) & !starts(k) & !(k == K_SEMI) & !own
-}
+impl Seen {
+    // Whether the word is one of an expression; an if's own pair of parentheses is not.
+    #[tactic(auto, unfolding(meaning::specs::Statements::of_e))]
+    pub fn of_e(self, k: Kind) -> bool
+        ensures { result ≡ meaning.of_e self k }
+    {
+        let own = (self.kw == Kind::IF)
+            & (self.pos == Position::TEST)
+            & (k == Kind::RPAREN)
+            & (self.depth == 0);
+        self.in_e() & !k.starts() & (k != Kind::SEMI) & !own
+    }
 
-// Whether a word of kind k says something outside expressions.
-pub fn saying(k: u8) -> bool
-    ensures { result ≡ meaning.saying k }
-{
-    (k == K_NAME) | (k == K_SELF) | (k == K_STAR) | (k == K_TRUE) | (k == K_FALSE)
-}
+    // Whether this is a braced list where `class` and `role` name one: it says nothing.
+    #[tactic(auto, unfolding(meaning::specs::Statements::idle))]
+    fn idle(self) -> bool
+        ensures { result ≡ meaning.idle self }
+    {
+        matches!(self.kw, Kind::CLASS | Kind::ROLE) & (self.pos == Position::FIRST) & self.inside
+    }
 
-// Whether this is a braced list where `class` and `role` name one: it says nothing.
-fn idle(st: Seen) -> bool
-    ensures { result ≡ meaning.idle (seen_of st) }
-{
-    ((st.kw == K_CLASS) | (st.kw == K_ROLE)) & (st.pos == P_FIRST) & st.inside
-}
+    // Whether a word of kind k is one of the statement's items.
+    #[tactic(auto, unfolding(meaning::specs::Statements::says))]
+    pub fn says(self, k: Kind) -> bool
+        ensures { result ≡ meaning.says self k }
+    {
+        self.kw.starts() & (self.kw != Kind::ELSE) & !self.idle() & (self.of_e(k) | k.saying())
+    }
 
-// Whether a word of kind k is one of the statement's items.
-pub fn says(st: Seen, k: u8) -> bool
-    ensures { result ≡ meaning.says (seen_of st) k }
-{
-    starts(st.kw) & !(st.kw == K_ELSE) & !idle(st) & (of_e(st, k) | saying(k))
-}
-
-// Whether a word of kind k ends the statement: the next one begins, `;`, or the brace behind an if's condition.
-pub fn ends(st: Seen, k: u8) -> bool
-    ensures { result ≡ meaning.ends (seen_of st) k }
-{
-    starts(k) | (k == K_SEMI) | ((k == K_OPEN) & ((st.kw == K_IF) | (st.kw == K_ELSE)))
-}
-
-// The form of the statement that a word of kind k ends; `NONE` where it is not whole.
-pub fn form_at(st: Seen, k: u8) -> u8
-    ensures { result ≡ meaning.form_at (seen_of st) k }
-{
-    let kw = st.kw;
-    let pos = st.pos;
-    if kw == K_CLASS {
-        if (pos == P_SECOND) & ((k == K_CLASS) | (k == K_COMMON)) {
-            return K_CLASS;
+    // Whether a word of kind k ends the statement: the next one begins, `;`, or the brace behind an if's condition.
+    #[tactic(auto, unfolding(meaning::specs::Statements::ends))]
+    pub fn ends(self, k: Kind) -> bool
+        ensures { result ≡ meaning.ends self k }
+    {
+        match k {
+            Kind::SEMI => true,
+            Kind::OPEN => matches!(self.kw, Kind::IF | Kind::ELSE),
+            _ => k.starts(),
         }
-        return K_PERMS;
     }
-    if (kw == K_COMMON) | (kw == K_IF) {
-        return kw;
-    }
-    if k != K_SEMI {
-        return NONE;
-    }
-    if kw == K_ROLE {
-        if pos == P_SECOND {
-            return K_ROLE;
+
+    // The form of the statement that a word of kind k ends; None where it is not whole.
+    #[tactic(auto, unfolding(meaning::specs::Statements::form_at))]
+    pub fn form_at(self, k: Kind) -> Option<Kind>
+        ensures { result ≡ unless_none (meaning.form_at self k) }
+    {
+        let second = self.pos == Position::SECOND;
+        match self.kw {
+            Kind::CLASS if second && matches!(k, Kind::CLASS | Kind::COMMON) => Some(Kind::CLASS),
+            Kind::CLASS => Some(Kind::PERMS),
+            Kind::COMMON | Kind::IF => Some(self.kw),
+            _ if k != Kind::SEMI => None,
+            Kind::ROLE if second => Some(Kind::ROLE),
+            Kind::ROLE => Some(Kind::ROLE_TYPES),
+            Kind::ALLOW if self.pos == Position::THIRD => Some(Kind::ROLE_ALLOW),
+            Kind::BAD => None,
+            kw => Some(kw),
         }
-        return K_ROLE_TYPES;
     }
-    if (kw == K_ALLOW) & (pos == P_THIRD) {
-        return K_ROLE_ALLOW;
-    }
-    kw
 }

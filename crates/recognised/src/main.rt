@@ -2,17 +2,19 @@
 // In the file each text stands behind its length: five decimal digits and an LF. What is no such number ends the run.
 #![tactic(auto)]
 
-ghost use Rattle.std.specs.Prelude.{◌≤◌, ◌<◌, length, IfOk};
+ghost use Rattle.std.specs.Prelude.{◌≤◌, ◌<◌, length};
+ghost use Rattle.std.specs.Iterator.{at_most};
 
 use std::fs::File;
 use std::io;
 use std::io::Read;
 use std::rt::Files;
 
+// What the file may hold: a program that did more would read on in a longer one.
 const ROOM: usize = 262144;
 
-// The digits before a text, with their LF.
-const HEAD: usize = 6;
+// The digits before a text; behind them stands an LF.
+const DIGITS: usize = 5;
 
 // The bytes that the reader gives, as many as there is room for; a read that fails ends them.
 fn read_full<R: Read>(reader: &mut R, all: &mut [u8]) -> usize
@@ -39,60 +41,46 @@ fn read_cases(rt: &impl Files, all: &mut [u8]) -> usize
     }
 }
 
-// The digit that a byte stands for; 0 for any other byte.
-fn digit(b: u8) -> usize
-    ensures { result < 10 }
-{
-    if b < b'0' {
-        return 0;
-    }
-    if b'9' < b {
-        return 0;
-    }
-    (b - b'0') as usize
-}
-
-// The number of the five digits at the start.
-fn number(head: &[u8]) -> usize
-    requires { 6 ≤ length head.now }
+// The number that the digits make; any other byte counts as the digit 0.
+fn number(digits: &[u8; DIGITS]) -> usize
     ensures { result < 100000 }
 {
-    digit(head[0]) * 10000
-        + digit(head[1]) * 1000
-        + digit(head[2]) * 100
-        + digit(head[3]) * 10
-        + digit(head[4])
-}
-
-// One text, and its line.
-fn show(rt: &impl Print, text: &[u8]) -> io::Result<()> {
-    let r = recogniser::recognise(text);
-    println!(rt; "{} {}", r.number, r.place)
-}
-
-// The first text of what is left, and how many bytes it took with its head; 0 where there is none.
-fn show_first(rt: &impl Print, rest: &[u8]) -> io::Result<usize>
-    ensures { IfOk result (λ n. n ≤ length rest.now) }
-{
-    if rest.len() < HEAD {
-        return Ok(0);
+    let mut n = 0;
+    for b in digits {
+        n = 10 * n + usize::from(if b.is_ascii_digit() { b - b'0' } else { 0 });
     }
-    let n = number(rest);
-    if rest.len() - HEAD < n {
-        return Ok(0);
-    }
-    show(rt, &rest[HEAD..HEAD + n])?;
-    Ok(HEAD + n)
+    n
 }
 
-fn run(rt: &impl Print, all: &[u8]) -> io::Result<()> {
-    let mut at = 0;
-    while at < all.len() {
-        let n = show_first(rt, &all[at..])?;
-        if n == 0 {
-            return Ok(());
+// The texts that stand one after the other in these bytes.
+#[derive(Drop)]
+struct Cases<'a>(&'a [u8]);
+
+impl<'a> Iterator for Cases<'a> {
+    type Item = &'a [u8];
+
+    ghost remaining = { λ s. at_most (length s.0.now) };
+
+    fn next(&mut self) -> Option<&'a [u8]> {
+        let (digits, rest) = self.0.split_first_chunk::<DIGITS>()?;
+        let (_, rest) = rest.split_first()?;
+        let n = number(digits);
+        if rest.len() < n {
+            return None;
         }
-        at += n;
+        let (text, rest) = rest.split_at(n);
+        self.0 = rest;
+        Some(text)
+    }
+}
+
+// A line for each text.
+fn show(rt: &impl Print, all: &[u8]) -> io::Result<()> {
+    for text in Cases(all) {
+        match recogniser::recognise(text) {
+            Ok(()) => println!(rt; "0 0")?,
+            Err(refusal) => println!(rt; "{refusal}")?,
+        }
     }
     Ok(())
 }
@@ -100,7 +88,7 @@ fn run(rt: &impl Print, all: &[u8]) -> io::Result<()> {
 // The file's texts; `all` is room for them.
 fn work(rt: &(impl Files + Print), all: &mut [u8]) -> io::Result<()> {
     let n = read_cases(rt, all);
-    run(rt, &all[0..n])
+    show(rt, &all[..n])
 }
 
 fn main(rt: HostRuntime) -> io::Result<()> {

@@ -1,63 +1,27 @@
--- One word of the reading. `read_from` is opened here only: at a word with which no text of the grammar begins it comes to 3
--- (`read-three`), at one that goes past a size to 7 (`read-seven`), else it goes on behind the word (`read-on`); at the end the grammar
--- decides (`read_whole`, `read_short`). `taken-three`, `taken-seven` and `taken-on` say the first three of a turn: what `take` answers
--- at its returns. `forward` is what `take` asks of the word's span.
+-- One word of the reading, w, the span of x. `read_from` is opened here only: at a word with which no text of the grammar begins it
+-- comes to 3 (`taken-three`), at one that goes past a size to 7 (`taken-seven`), else it goes on behind the word (`taken-on`): what
+-- `take` answers at its returns. `forward` is what `take` asks of the word's span.
 -- Assumes nothing.
 use Prim.Native.Nat.{ℕ, ◌-◌, ◌≤◌}
 use native.Mathlib.Omega.{arith}
-use mathlib.Core.Path.{◌≡◌, sym, ◌∙◌, ap, ap₂}
+use mathlib.Core.Path.{◌≡◌, sym, ◌∙◌, ap}
 use mathlib.Core.Bool.{Bool, true, false}
-use mathlib.Core.List.{List, [], ◌∷◌}
-use borrow.Author.Tests.{eq-eqb, ne_eqb}
+use mathlib.Core.List.{List, ◌∷◌}
 use lib.ListN.{length}
+use Rattle.std.specs.Prelude.{Err}
 use Rattle.meaning.specs.Words.{Word}
-use Rattle.meaning.specs.Grammar.{G, left, is_none, nullable}
-use Rattle.meaning.specs.Statements as meaning
-use Rattle.meaning.specs.Sizes.{Counts, counted, exceeds, place_of, fits, ungrammatical, oversize, read_from}
-use Rattle.meaning.specs.Refusals.{accepted, not_grammar, over_size}
+use Rattle.meaning.specs.Grammar.{none, left, is_none}
+use Rattle.meaning.specs.Statements.{Seen, step}
+use Rattle.meaning.specs.Sizes.{Counts, counted, exceeds, place_of, read_from}
 use Rattle.words.specs.declared.Span.{Span}
 use Rattle.words.specs.Spans.{span_of}
-use Rattle.reading.specs.Seen.{seen_of}
-use Rattle.reading.specs.Counts.{counts_of}
 use Rattle.reading.proofs.Room.{room_next}
 use Rattle.grammar.specs.States.{regex, Stepped}
-use Rattle.grammar.proofs.Laws.{alive}
-use Rattle.recogniser.specs.declared.Refusal.{Refusal}
-use Rattle.recogniser.specs.declared.Turn.{Turn}
+use Rattle.grammar.specs.declared.State.{State}
+use Rattle.recogniser.specs.declared.Reading.{Reading}
+use Rattle.recogniser.specs.declared.Refusal.TheVariants.{NotGrammar, OverSize}
 use Rattle.recogniser.specs.Refusal.{of_verdict}
-use Rattle.recogniser.specs.Turn.{ahead, Taken}
-
--- ---- of the definition
-module _ (end : ℕ) (g : G) (st : meaning.Seen) (c : Counts) (last : ℕ) where
-  pub read_whole : nullable g ≡ true → read_from end g st c last [] ≡ fits
-  unfolding read_from
-  read_whole e = rw (e, read_from)
-
-  pub read_short : nullable g ≡ false → read_from end g st c last [] ≡ ungrammatical end
-  unfolding read_from
-  read_short e = rw (e, read_from)
-
-  module _ (w : Word) (ws : List Word) where
-    pub read-three : is_none (left g w.kind) ≡ true → read_from end g st c last (w ∷ ws) ≡ ungrammatical w.at
-    unfolding read_from
-    read-three e = rw (e, read_from)
-
-    pub read-seven : is_none (left g w.kind) ≡ false → exceeds st w (counted st w.kind c) ≡ true
-        → read_from end g st c last (w ∷ ws) ≡ oversize (place_of st w last)
-    unfolding read_from
-    read-seven e h = rw (e, h, read_from)
-
-    pub read-on : is_none (left g w.kind) ≡ false → exceeds st w (counted st w.kind c) ≡ false
-        → read_from end g st c last (w ∷ ws) ≡ read_from end (left g w.kind) (meaning.step st w.kind) (counted st w.kind c) w.at ws
-    unfolding read_from
-    read-on e h = rw (e, h, read_from)
-
--- ---- of a turn
-abbrev refusal : ℕ → ℕ → Refusal
-refusal n p = record { number = n; place = p }
-
-same-refusal : (r : Refusal) {n p : ℕ} → r.number ≡ n → r.place ≡ p → r ≡ refusal n p
-same-refusal r e h = ap₂ refusal e h
+use Rattle.recogniser.specs.Turn.{ahead, Gone}
 
 -- w is the span of the word x
 module _ (w : Span) (x : Word) (e : w ≡ span_of x) where
@@ -77,58 +41,36 @@ module _ (w : Span) (x : Word) (e : w ≡ span_of x) where
   unfolding span_of
   forward = omega (arith, ap (λ y. y.start) e, ap (λ y. y.end) e)
 
-module _ (t : Turn) (l : List ℕ) (w : Span) (x : Word) (e : w ≡ span_of x) where
-  -- s and d are the state and the depth behind the word, r the turn
-  module _ (s d : ℕ) (p : Stepped t.state.s t.state.depth w.kind s d) (r : Turn) (l' : List ℕ) where
-    here : left (regex t.state.s t.state.depth) x.kind ≡ regex s d
-    here = rw (kind w x e) p.goes
+module _ (t : Reading) (w : Span) (x : Word) (e : w ≡ span_of x) where
+  pub taken-three : left (regex t.state.s t.state.depth) w.kind ≡ none
+      → (end : ℕ) (ws : List Word) → Err (NotGrammar w.start) ≡ of_verdict (ahead end t (x ∷ ws))
+  unfolding ahead of_verdict read_from is_none
+  taken-three n end ws = rw (kind w x e, n, start w x e)
 
-    pub taken-three : s ≡ 0 → r.refusal.number ≡ not_grammar → r.refusal.place ≡ w.start → Taken t l x r l'
-    unfolding ahead of_verdict
-    taken-three z n q =
+  -- something is left behind the word, c are the counts there, and b is what `exceeds` answers
+  module _ (some : is_none (left (regex t.state.s t.state.depth) w.kind) ≡ false)
+      (c : Counts) (h : c ≡ counted t.seen w.kind t.counts)
+      (b : Bool) (a : (y : Word) → y.kind ≡ w.kind → length y.text ≡ w.end - w.start → b ≡ exceeds t.seen y c) where
+    alive : is_none (left (regex t.state.s t.state.depth) x.kind) ≡ false
+    alive = rw (kind w x e) some
+
+    behind : c ≡ counted t.seen x.kind t.counts
+    behind = rw (kind w x e) h
+
+    past : exceeds t.seen x c ≡ b
+    past = sym (a x (kind w x e) (size w x e))
+
+    pub taken-seven : b ≡ true → (n : ℕ) → ((y : Word) → y.kind ≡ w.kind → y.at ≡ w.start → n ≡ place_of t.seen y t.last)
+        → (end : ℕ) (ws : List Word) → Err (OverSize n) ≡ of_verdict (ahead end t (x ∷ ws))
+    unfolding ahead of_verdict read_from
+    taken-seven q n m end ws = rw (m x (kind w x e) (start w x e), alive, ← behind, past, q)
+
+    pub taken-on : b ≡ false → (s : State) → Stepped t.state.s t.state.depth w.kind s.s s.depth
+        → (st : Seen) → st ≡ step t.seen w.kind → Gone t x (record { state = s; seen = st; counts = c; last = w.start })
+    unfolding ahead read_from
+    taken-on q s p st f =
         record {
-          goes = λ g. absurd (omega arith);
-          stops = λ _ end ws.
-              same-refusal r.refusal n (q ∙ sym (start w x e))
-              ∙ sym (ap of_verdict (read-three end _ _ _ _ x ws (ap is_none here ∙ alive s d p.state ∙ eq-eqb s 0 z)));
+          same = λ end ws. rw (alive, ← behind, past, q, kind w x e, start w x e, f, p.goes);
+          depth = p.depth;
+          room = λ n m. room_next t.seen x m behind (past ∙ q);
         }
-
-    -- own is what the statement has counted behind the word
-    module _ (own : ℕ) (f : s ≡ 0 → ⊥) (h : counts_of l' own ≡ counted (seen_of t.seen) w.kind (counts_of l t.own)) where
-      some : is_none (left (regex t.state.s t.state.depth) x.kind) ≡ false
-      some = ap is_none here ∙ alive s d p.state ∙ ne_eqb s 0 f
-
-      behind : counts_of l' own ≡ counted (seen_of t.seen) x.kind (counts_of l t.own)
-      behind = rw (kind w x e) h
-
-      -- b is what `exceeds` answers
-      module _ (b : Bool)
-          (a : (y : Word) → y.kind ≡ w.kind → length y.text ≡ w.end - w.start → b ≡ exceeds (seen_of t.seen) y (counts_of l' own)) where
-        past : {v : Bool} → b ≡ v → exceeds (seen_of t.seen) x (counted (seen_of t.seen) x.kind (counts_of l t.own)) ≡ v
-        past q = ap (exceeds (seen_of t.seen) x) (sym behind) ∙ sym (a x (kind w x e) (size w x e)) ∙ q
-
-        pub taken-seven : b ≡ true → r.refusal.number ≡ over_size
-            → ((y : Word) → y.kind ≡ w.kind → y.at ≡ w.start → r.refusal.place ≡ place_of (seen_of t.seen) y t.last)
-            → Taken t l x r l'
-        unfolding ahead of_verdict
-        taken-seven q n m =
-            record {
-              goes = λ g. absurd (omega arith);
-              stops = λ _ end ws.
-                  same-refusal r.refusal n (m x (kind w x e) (start w x e)) ∙ sym (ap of_verdict (read-seven end _ _ _ _ x ws some (past q)));
-            }
-
-        pub taken-on : b ≡ false → r.state.s ≡ s → r.state.depth ≡ d → r.own ≡ own → r.last ≡ w.start
-            → seen_of r.seen ≡ meaning.step (seen_of t.seen) w.kind → r.refusal.number ≡ accepted → Taken t l x r l'
-        unfolding ahead
-        taken-on q es ed eo el ee n =
-            record {
-              goes = λ _. record {
-                same = λ end ws.
-                    read-on end _ _ _ _ x ws some (past q) ∙ rw (here, kind w x e, start w x e, ← h, es, ed, eo, el, ee);
-                state = rw es p.state;
-                depth = rw ed p.depth;
-                room = λ n m. rw eo (room_next (seen_of t.seen) x m behind (sym (a x (kind w x e) (size w x e)) ∙ q));
-              };
-              stops = λ g. absurd (g n);
-            }

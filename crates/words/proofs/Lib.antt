@@ -3,8 +3,7 @@
 pub mod Scanned
 pub mod Located
 pub mod Behind
--- bytes that read the same, and what holds of every number below a bound
-pub mod Same
+-- what holds of every number below a bound
 pub mod Counted
 -- the answers of `mark_at`, `kind_of` and `word_at`
 pub mod Marked

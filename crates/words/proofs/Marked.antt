@@ -1,60 +1,65 @@
--- The marks: what one byte makes, what two make, and the mark at a place of a text.
+-- The mark at a place of a text: of two bytes, or of one where these make none or the text ends.
 -- Assumes nothing.
 use Prim.Native.Nat.{ℕ, ◌+◌, ◌≤◌, ◌<◌}
-use native.Mathlib.Omega.{arith}
 use mathlib.Core.Path.{◌≡◌, refl, sym}
-use mathlib.Core.Bool.{Bool, true, false, ◌&&◌}
+use mathlib.Core.Bool.{Bool, true, false}
 use mathlib.Core.List.{List, [], ◌∷◌}
-use borrow.Author.Tests.{eq-eqb, ne_eqb, eqb-true, eqb-false}
-use lib.Dec.{eqb}
+use mathlib.Core.Logic.{◌⊎◌, inl, inr}
+use borrow.Author.Tests.{eq-eqb, ne_eqb, eqb-true, ltb-true, ltb-false}
+use lib.Dec.{eqb, ltb}
 use lib.ListN.{length, drop, get_or, drop_of_length-le}
 use lib.Seq.{drop-cons}
-use Rattle.std.specs.Prelude.{if◌then◌else◌}
-use Rattle.meaning.specs.Keywords.{bytes, marks, kind_from, mark_of, k_bad}
+use Rattle.std.specs.Prelude.{Option, Some, None, if◌then◌else◌}
+use Rattle.std.specs.Option.{unwrap_or}
+use Rattle.meaning.specs.Keywords.{mark_of, k_bad}
 use Rattle.meaning.specs.Words.{mark_here}
+use Rattle.meaning.proofs.Lists.{bool_cases}
+use Rattle.kinds.specs.Kinds.{unless_none}
+use Rattle.kinds.proofs.Unless.{unless-none, unless-some}
 use Rattle.words.specs.Spans.{span_of}
 
-pub if-same : {A : Type 0} (t : Bool) (x : A) → (if t then x else x) ≡ x
-if-same true x = refl
-if-same false x = refl
+pub if_same : {A : Type 0} (t : Bool) (x : A) → (if t then x else x) ≡ x
+if_same true x = refl
+if_same false x = refl
 
-both : (t u : Bool) → (if t then if u then true else false else false) ≡ (t && u)
-both true true = refl
-both true false = refl
-both false u = refl
-
-turned : (a b : ℕ) → eqb a b ≡ eqb b a
-turned a b = go (eqb b a) refl
+-- a byte that makes no mark is bad
+one : (k : ℕ) → unwrap_or (unless_none k) k_bad ≡ k
+one k = by (eqb k k_bad) refl
   where
-    go : (t : Bool) → eqb b a ≡ t → eqb a b ≡ t
-    go true e = eq-eqb a b (sym (eqb-true b a e))
-    go false e = ne_eqb a b (λ q. eqb-false b a e (sym q))
+    by : (t : Bool) → eqb k k_bad ≡ t → unwrap_or (if t then None else Some k) k_bad ≡ k
+    by true e = sym (eqb-true k k_bad e)
+    by false e = refl
 
-pub other : (a b : ℕ) → (b ≡ a → ⊥) → eqb a b ≡ false
-other a b n = ne_eqb a b (λ q. n (sym q))
+-- ---- at the place p of the text s
+module _ (s : List ℕ) (p : ℕ) where
+  abbrev pair : ℕ
+  pair = mark_of (get_or s p 0 ∷ get_or s (p + 1) 0 ∷ [])
 
-pub mark-two : (a b : ℕ) → mark_of (a ∷ b ∷ [])
-    ≡ (if eqb a 61 && eqb b 61 then 14 else if eqb a 33 && eqb b 61 then 15 else if eqb a 38 && eqb b 38 then 16
-    else if eqb a 124 && eqb b 124 then 17 else k_bad)
-unfolding mark_of kind_from marks bytes
-mark-two a b =
-    simp (if-same, both) (rw (turned a 61, turned a 33, turned a 38, turned a 124, turned b 61, turned b 38, turned b 124))
+  abbrev two : Option ℕ
+  two = unless_none pair
 
--- ---- at the place p of the text s, where one and two are what its byte makes, alone and with the next
-module _ (s : List ℕ) (p one : ℕ) (e : one ≡ mark_of (get_or s p 0 ∷ [])) where
-  pub mark-last : p + 1 ≡ length s → record { kind = one; start = p; end = p + 1 } ≡ span_of (mark_here p (get_or s p 0) (drop (p + 1) s))
+  pub mark-pair : (k : ℕ) → p + 1 < length s → Some k ≡ two
+      → record { kind = k; start = p; end = p + 2 } ≡ span_of (mark_here p (get_or s p 0) (drop (p + 1) s))
   unfolding mark_here span_of
-  mark-last h =
-      let l : length s ≤ p + 1 = omega arith in
-      rw (drop_of_length-le s l, if-same, e)
+  mark-pair k h e =
+      let o = unless-some k_bad _ k e in
+      rw (drop-cons s (p + 1) 0 h, ne_eqb _ _ o.1, o.0)
 
-  module _ (two : ℕ) (f : two ≡ mark_of (get_or s p 0 ∷ get_or s (p + 1) 0 ∷ [])) (h : p + 1 < length s) where
-    pub mark-single : two ≡ k_bad → record { kind = one; start = p; end = p + 1 } ≡ span_of (mark_here p (get_or s p 0) (drop (p + 1) s))
-    unfolding mark_here span_of
-    mark-single z = rw (drop-cons s (p + 1) 0 h, ← f, eq-eqb _ _ z, e)
+  abbrev Single : Type 0
+  Single =
+      record { kind = unwrap_or (unless_none (mark_of (get_or s p 0 ∷ []))) k_bad; start = p; end = p + 1 }
+      ≡ span_of (mark_here p (get_or s p 0) (drop (p + 1) s))
 
-    pub mark-pair : (two ≡ k_bad → ⊥) → record { kind = two; start = p; end = p + 1 + 1 } ≡ span_of (mark_here p (get_or s p 0) (drop (p + 1) s))
-    unfolding mark_here span_of
-    mark-pair n =
-        let sum : p + 1 + 1 ≡ p + 2 = omega arith in
-        rw (drop-cons s (p + 1) 0 h, ← f, ne_eqb _ _ n, sum)
+  mark-last : length s ≤ p + 1 → Single
+  unfolding mark_here span_of
+  mark-last h = rw (drop_of_length-le s h, if_same, one)
+
+  mark-alone : p + 1 < length s → None ≡ two → Single
+  unfolding mark_here span_of
+  mark-alone h e = rw (one, drop-cons s (p + 1) 0 h, eq-eqb pair k_bad (unless-none k_bad pair e))
+
+  pub mark-single : (length s ≤ p + 1) ⊎ (None ≡ two) → Single
+  mark-single (inl h) = mark-last h
+  mark-single (inr e) =
+      bool_cases (ltb (p + 1) (length s)) (λ t. mark-alone (ltb-true (p + 1) (length s) t) e)
+      (λ t. mark-last (ltb-false (p + 1) (length s) t))

@@ -3,14 +3,22 @@
 use Prim.Native.Nat.{ℕ, suc, ◌+◌, ◌≤◌, ◌<◌}
 use native.Mathlib.Omega.{arith}
 use native.Mathlib.Numerals.{add-one}
-use mathlib.Core.Path.{◌≡◌, ◌∙◌}
+use mathlib.Core.Path.{◌≡◌, refl}
 use mathlib.Core.Bool.{Bool, true, false}
 use mathlib.Core.List.{List, [], ◌∷◌}
 use borrow.Author.Tests.{eq-eqb, ne_eqb}
 use lib.Dec.{eqb}
 use lib.ListN.{length, drop, get_or, drop_of_length-le, length-drop}
 use lib.Seq.{drop-cons}
+use Rattle.std.specs.Prelude.{if◌then◌else◌}
+use Rattle.std.specs.Bool.{then_some}
 use Rattle.meaning.specs.Words.{scan_step, scan_to, stopped}
+use Rattle.words.specs.Spans.{unless_stopped}
+
+-- a byte that a test lets through leads to st, and any other stops the scan
+pub going : (b : Bool) (st : ℕ) → eqb st stopped ≡ false → then_some b st ≡ unless_stopped (if b then st else stopped)
+going true st e = rw e
+going false st e = refl
 
 -- ---- one turn, at the place p of the text s
 module _ (st p : ℕ) (s : List ℕ) where
@@ -22,10 +30,10 @@ module _ (st p : ℕ) (s : List ℕ) where
   unfolding scan_to
   scan-stops h e = rw (drop-cons s p 0 h, eq-eqb _ _ e, scan_to)
 
-  pub scan-goes : p < length s → (st' : ℕ) → st' ≡ scan_step st (get_or s p 0) → (st' ≡ stopped → ⊥)
+  pub scan-goes : p < length s → (st' : ℕ) → st' ≡ scan_step st (get_or s p 0) → (scan_step st (get_or s p 0) ≡ stopped → ⊥)
       → scan_to st p (drop p s) ≡ scan_to st' (p + 1) (drop (p + 1) s)
   unfolding scan_to
-  scan-goes h st' e n = rw (drop-cons s p 0 h, ne_eqb _ _ (λ q. n (e ∙ q)), scan_to) (cc (add-one p))
+  scan-goes h st' e n = rw (drop-cons s p 0 h, ne_eqb _ _ n, scan_to) (cc (add-one p))
 
 -- ---- where it stops
 pub scan-from : (st p : ℕ) (s : List ℕ) → (p ≤ scan_to st p s) × (scan_to st p s ≤ p + length s)

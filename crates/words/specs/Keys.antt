@@ -4,7 +4,8 @@
 --   slot_of w     the slot of the word w: its first byte, the one in its middle and its last tell the keywords apart
 --   key_table     in each slot the number of the keyword that has it, or `key_count`; the lengths of the keywords, from `slots` on;
 --                their bytes, from `bytes_at` on, `key_width` to each, filled up with spaces
-use Rattle.std.specs.Prelude.{ℕ, ◌+◌, ◌-◌, ◌*◌, ◌/◌, ◌%◌, List, eqb, ltb, length, get_or, if◌then◌else◌}
+--   candidate w   the number of the one keyword that the word w can be
+use Rattle.std.specs.Prelude.{ℕ, ◌+◌, ◌-◌, ◌*◌, ◌/◌, ◌%◌, List, eqb, ltb, length, get_or, Option, Some, None, if◌then◌else◌}
 use Rattle.meaning.specs.Plain.{index_from, each, up_to}
 use Rattle.meaning.specs.Keywords.{bytes, keywords}
 
@@ -41,3 +42,8 @@ key_entry i =
 
 unfoldable pub key_table : List ℕ
 key_table = each key_entry (up_to table_size)
+
+unfoldable pub candidate : List ℕ → Option ℕ
+candidate w =
+    let k = key_entry (slot_of w) in
+    if eqb (length w) 0 then None else if ltb k key_count then Some k else None

@@ -1,11 +1,10 @@
 // The keywords. The slot of an identifier leads to the one keyword that it can be, and one comparison decides: it has that
-// keyword's kind or is a NAME. The words stand once, in a table that a function makes and lends on.
-ghost use Rattle.std.specs.Prelude.{◌≡◌, ◌<◌, length, get_or};
-ghost use Rattle.meaning.specs.Plain.{same_bytes};
+// keyword's kind or is a NAME. The words stand once, in a table that is made once and lent on.
+ghost use Rattle.std.specs.Prelude.{◌≡◌, ◌<◌, length, slice_get};
 ghost use Rattle.meaning.specs.Keywords.{kind_of};
-ghost use Rattle.words.specs.Keys.{key_count, key_width, keyword, blank, slot_of, key_table};
+ghost use Rattle.words.specs.Keys.{key_count, keyword, slot_of, key_table, candidate};
 
-use crate::NAME;
+use kinds::Kind;
 
 // How many slots there are, how many keywords, and how many bytes each of these takes.
 const SLOTS: usize = 128;
@@ -18,10 +17,10 @@ const WIDTH: usize = 16;
 const BYTES: usize = SLOTS + COUNT;
 
 // The size of the table.
-pub const SIZE: usize = BYTES + COUNT * WIDTH;
+const SIZE: usize = BYTES + COUNT * WIDTH;
 
 // The kind of the first keyword; the others follow in the table's order.
-const FIRST: u8 = 18;
+const FIRST: u8 = Kind::CLASS.0;
 
 // In each slot the number of the keyword that has it, or COUNT; the lengths of the keywords; their bytes, filled up with spaces.
 // Written by tools/keywords.py from the definitions' list.
@@ -75,81 +74,60 @@ const KEYS: [u8; SIZE] = *b"\
     t1              \
     t2              ";
 
-// The table of the keywords, to be lent to `kind_of`.
-pub fn table() -> [u8; SIZE]
-    ensures { result ≡ key_table }
-{
-    KEYS
-}
-
-// The byte as a number to count with.
-fn wide(b: u8) -> usize
-    ensures { (result ≡ b) × (result < 256) }
-{
-    b as usize
-}
-
 // The slot of a word, from its first byte, the one in its middle and its last. No two keywords have one slot.
+#[tactic(auto, unfolding(crate::specs::Keys::slot_of))]
 fn slot_of(word: &[u8]) -> usize
     requires { 0 < length word.now }
     ensures { result ≡ slot_of word.now }
 {
-    let first = wide(word[0]);
-    let middle = wide(word[word.len() / 2]);
-    let last = wide(word[word.len() - 1]);
+    let first = usize::from(word[0]);
+    let middle = usize::from(word[word.len() / 2]);
+    let last = usize::from(word[word.len() - 1]);
     (3 * first + 6 * middle + last) % SLOTS
 }
 
-// How many bytes keyword `k` has.
-fn key_len(keys: &[u8; SIZE], k: usize) -> usize
-    requires { (keys.now ≡ key_table) × (k < key_count) }
-    ensures { result ≡ length (keyword k) }
-{
-    wide(keys[SLOTS + k])
+// The table of the keywords: made once, and lent to whatever reads words.
+#[derive(Drop)]
+pub struct Keywords {
+    table: [u8; SIZE],
+    ghost made: { table ≡ key_table },
 }
 
-// Byte `j` of keyword `k`, a space behind its end.
-fn key_byte(keys: &[u8; SIZE], k: usize, j: usize) -> u8
-    requires { (keys.now ≡ key_table) × (k < key_count) × (j < key_width) }
-    ensures { result ≡ get_or (keyword k) j blank }
-{
-    keys[BYTES + WIDTH * k + j]
-}
-
-// Whether the word is keyword `k`.
-fn is_key(keys: &[u8; SIZE], k: usize, word: &[u8]) -> bool
-    requires { (keys.now ≡ key_table) × (k < key_count) }
-    ensures { result ≡ same_bytes (keyword k) word.now }
-{
-    if key_len(keys, k) != word.len() {
-        return false;
+impl Keywords {
+    #[tactic(auto, unfolding(crate::specs::Keys::key_table, crate::specs::Keys::key_entry, crate::specs::Keys::keyword, crate::specs::Keys::slot_of, meaning::specs::Keywords::keywords, meaning::specs::Keywords::bytes))]
+    pub fn new() -> Keywords {
+        Keywords { table: KEYS }
     }
-    let mut j = 0;
-    while j < word.len() {
-        if key_byte(keys, k, j) != word[j] {
-            return false;
+
+    // The number of the one keyword that the word can be.
+    fn candidate(&self, word: &[u8]) -> Option<u8>
+        ensures { result ≡ candidate word.now }
+    {
+        if word.is_empty() {
+            return None;
         }
-        j += 1;
+        let k = self.table[slot_of(word)];
+        (usize::from(k) < COUNT).then_some(k)
     }
-    true
-}
 
-// The kind of an identifier: a keyword's, or NAME.
-pub fn kind_of(keys: &[u8; SIZE], word: &[u8]) -> u8
-    requires { keys.now ≡ key_table }
-    ensures { result ≡ kind_of word.now }
-{
-    if word.len() == 0 {
-        return NAME;
+    // Keyword `k`.
+    fn keyword(&self, k: u8) -> &[u8]
+        requires { k < key_count }
+        ensures { result.now ≡ keyword k }
+    {
+        let k = usize::from(k);
+        let start = BYTES + WIDTH * k;
+        let len = usize::from(self.table[SLOTS + k]);
+        &self.table[start..start + len]
     }
-    let slot = slot_of(word);
-    let n = keys[slot];
-    let k = wide(n);
-    if COUNT <= k {
-        return NAME;
+
+    // The kind of an identifier: a keyword's, or NAME.
+    pub fn kind_of(&self, word: &[u8]) -> Kind
+        ensures { result ≡ kind_of word.now }
+    {
+        match self.candidate(word) {
+            Some(k) if self.keyword(k) == word => Kind(FIRST + k),
+            _ => Kind::NAME,
+        }
     }
-    if is_key(keys, k, word) {
-        return FIRST + n;
-    }
-    NAME
 }

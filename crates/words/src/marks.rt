@@ -1,49 +1,47 @@
-// The marks: words of one byte or two that are no names. Their kinds count from 2 through the definitions' list.
+// The marks: words of one byte or two that are no names.
 ghost use Rattle.std.specs.Prelude.{◌≡◌, [], ◌∷◌, ◌+◌, ◌<◌, length, drop, get_or};
 ghost use Rattle.meaning.specs.Keywords.{mark_of};
 ghost use Rattle.meaning.specs.Words.{mark_here};
+ghost use Rattle.kinds.specs.Kinds.{unless_none};
 ghost use Rattle.words.specs.Spans.{span_of};
 
-use crate::{BAD, Span};
+use crate::Span;
+use kinds::Kind;
 
-// The kind of the mark that the byte makes, or BAD.
-fn mark_one(b: u8) -> u8
-    ensures { result ≡ mark_of (b ∷ []) }
+// The kind of the mark that the byte makes.
+#[tactic(auto, using(crate::proofs::Marked::if_same), unfolding(meaning::specs::Keywords::mark_of, meaning::specs::Keywords::kind_from, meaning::specs::Keywords::marks, meaning::specs::Keywords::bytes))]
+fn mark_one(b: u8) -> Option<Kind>
+    ensures { result ≡ unless_none (mark_of (b ∷ [])) }
 {
-    match b {
-        b'{' => 2,
-        b'}' => 3,
-        b'(' => 4,
-        b')' => 5,
-        b';' => 6,
-        b':' => 7,
-        b',' => 8,
-        b'~' => 9,
-        b'*' => 10,
-        b'-' => 11,
-        b'^' => 12,
-        b'!' => 13,
-        _ => BAD,
-    }
+    Some(match b {
+        b'{' => Kind::OPEN,
+        b'}' => Kind::CLOSE,
+        b'(' => Kind::LPAREN,
+        b')' => Kind::RPAREN,
+        b';' => Kind::SEMI,
+        b':' => Kind::COLON,
+        b',' => Kind::COMMA,
+        b'~' => Kind::TILDE,
+        b'*' => Kind::STAR,
+        b'-' => Kind::MINUS,
+        b'^' => Kind::CARET,
+        b'!' => Kind::BANG,
+        _ => return None,
+    })
 }
 
-// The kind of the mark that two bytes make, or BAD.
-fn mark_two(a: u8, b: u8) -> u8
-    ensures { result ≡ mark_of (a ∷ b ∷ []) }
+// The kind of the mark that two bytes make.
+#[tactic(auto, using(crate::proofs::Marked::if_same), unfolding(meaning::specs::Keywords::mark_of, meaning::specs::Keywords::kind_from, meaning::specs::Keywords::marks, meaning::specs::Keywords::bytes))]
+fn mark_two(a: u8, b: u8) -> Option<Kind>
+    ensures { result ≡ unless_none (mark_of (a ∷ b ∷ [])) }
 {
-    if (a == b'=') & (b == b'=') {
-        return 14;
-    }
-    if (a == b'!') & (b == b'=') {
-        return 15;
-    }
-    if (a == b'&') & (b == b'&') {
-        return 16;
-    }
-    if (a == b'|') & (b == b'|') {
-        return 17;
-    }
-    BAD
+    Some(match (a, b) {
+        (b'=', b'=') => Kind::SAME,
+        (b'!', b'=') => Kind::DIFFER,
+        (b'&', b'&') => Kind::BOTH,
+        (b'|', b'|') => Kind::EITHER,
+        _ => return None,
+    })
 }
 
 // The mark that begins at `start`, of two bytes where they make one, else of one; a byte that makes none is BAD.
@@ -52,26 +50,17 @@ pub fn mark_at(text: &[u8], start: usize) -> Span
     ensures { result ≡ span_of (mark_here start (get_or text.now start 0) (drop (start + 1) text.now)) }
 {
     let b = text[start];
-    let one = mark_one(b);
-    let next = start + 1;
-    if next == text.len() {
-        return Span {
-            kind: one,
+    let two = text.get(start + 1).and_then(|&next| mark_two(b, next));
+    match two {
+        Some(kind) => Span {
+            kind,
             start,
-            end: next,
-        };
-    }
-    let two = mark_two(b, text[next]);
-    if two == BAD {
-        return Span {
-            kind: one,
+            end: start + 2,
+        },
+        None => Span {
+            kind: mark_one(b).unwrap_or(Kind::BAD),
             start,
-            end: next,
-        };
-    }
-    Span {
-        kind: two,
-        start,
-        end: next + 1,
+            end: start + 1,
+        },
     }
 }

@@ -1,17 +1,24 @@
 // The bytes that separate words, and those of a name: where a run of either ends.
-ghost use Rattle.std.specs.Prelude.{◌≡◌, drop};
+ghost use Rattle.std.specs.Prelude.{◌≡◌, ℕ, drop};
 ghost use Rattle.meaning.specs.Words.{is_blank, is_letter, in_name, scan_step, scan_to};
+ghost use Rattle.words.specs.Spans.{unless_stopped};
 
-// What a scan is in.
-pub const BETWEEN: u8 = 0;
+use std::marker::Model;
 
-const COMMENT: u8 = 1;
+// What a scan is in: a number, as in the definitions. A scan in any other number is as in NAMING.
+#[derive(Clone, Copy, Debug, PartialEq, Eq)]
+pub struct Scan(pub u8);
 
-pub const NAMING: u8 = 2;
+impl Model for Scan {
+    ghost Value = { ℕ };
 
-const STOPPED: u8 = 3;
+    ghost view = { λ s. s.0 };
+
+    ghost inverse = { λ n. record { 0 = n } };
+}
 
 // Whether the byte separates words by itself.
+#[tactic(auto, unfolding(meaning::specs::Words::is_blank))]
 fn is_blank(b: u8) -> bool
     ensures { result ≡ is_blank b }
 {
@@ -19,57 +26,55 @@ fn is_blank(b: u8) -> bool
 }
 
 // Whether the byte begins a name.
+#[tactic(auto, unfolding(meaning::specs::Words::is_letter))]
 pub fn is_letter(b: u8) -> bool
     ensures { result ≡ is_letter b }
 {
-    (b'a' <= b) & (b <= b'z') | (b'A' <= b) & (b <= b'Z')
+    b.is_ascii_alphabetic()
 }
 
 // Whether the byte may stand in a name behind the first.
+#[tactic(auto, unfolding(meaning::specs::Words::in_name))]
 pub fn in_name(b: u8) -> bool
     ensures { result ≡ in_name b }
 {
-    is_letter(b) | (b'0' <= b) & (b <= b'9') | (b == b'_') | (b == b'.') | (b == b'-')
+    is_letter(b) | b.is_ascii_digit() | (b == b'_') | (b == b'.') | (b == b'-')
 }
 
-// What the scan is in after the byte; STOPPED where the byte is no longer of it.
-fn scan_step(st: u8, b: u8) -> u8
-    ensures { result ≡ scan_step st b }
-{
-    if st == COMMENT {
-        let ends = b == b'\n';
-        if ends {
-            return BETWEEN;
+impl Scan {
+    pub const BETWEEN: Scan = Scan(0);
+
+    pub const COMMENT: Scan = Scan(1);
+
+    pub const NAMING: Scan = Scan(2);
+
+    // What the scan is in after the byte; None where the byte is no longer of it.
+    #[tactic(auto, unfolding(meaning::specs::Words::scan_step))]
+    fn after(self, b: u8) -> Option<Scan>
+        ensures { result ≡ unless_stopped (scan_step self b) }
+    {
+        match self {
+            Scan::COMMENT => {
+                let ends = b == b'\n';
+                Some(if ends { Scan::BETWEEN } else { Scan::COMMENT })
+            }
+            Scan::BETWEEN if is_blank(b) => Some(Scan::BETWEEN),
+            Scan::BETWEEN => (b == b'#').then_some(Scan::COMMENT),
+            _ => in_name(b).then_some(Scan::NAMING),
         }
-        return COMMENT;
     }
-    if st == BETWEEN {
-        if is_blank(b) {
-            return BETWEEN;
-        }
-        if b == b'#' {
-            return COMMENT;
-        }
-        return STOPPED;
-    }
-    if in_name(b) {
-        return NAMING;
-    }
-    STOPPED
 }
 
-// The place, from `at` on, at which a scan that is in `st` stops; the text's end, or `at` past that, where no byte stops it.
-pub fn scan_to(text: &[u8], at: usize, st: u8) -> usize
-    ensures { result ≡ scan_to st at (drop at text.now) }
+// The place, from `at` on, at which a scan stops; the text's end, or `at` past that, where no byte stops it.
+pub fn scan_to(text: &[u8], at: usize, scan: Scan) -> usize
+    ensures { result ≡ scan_to scan at (drop at text.now) }
 {
-    let mut i = at;
-    let mut s = st;
-    while i < text.len() {
-        s = scan_step(s, text[i]);
-        if s == STOPPED {
-            return i;
+    let mut s = scan;
+    for i in at..text.len() {
+        match s.after(text[i]) {
+            Some(next) => s = next,
+            None => return i,
         }
-        i += 1;
     }
-    i
+    at.max(text.len())
 }

@@ -1,18 +1,23 @@
 -- `words::marks::mark_at` meets its contract: each return is one law of Marked. Assumes nothing.
-use native.Mathlib.Omega.{arith}
-use Rattle.words.proofs.Marked.{mark-last, mark-single, mark-pair}
+use Rattle.std.proofs.Common.{rules, ◌≡◌, ◌<◌, ◌+◌, ◌≤◌, length, [], ◌∷◌, ◌⊎◌}
+use lib.ListN.{get_or}
+use Rattle.std.specs.Prelude.{Some, None}
+use Rattle.meaning.specs.Keywords.{mark_of}
+use Rattle.kinds.specs.Kinds.{unless_none}
+use Rattle.words.proofs.Marked.{mark-pair, mark-single}
 use Rattle.words.proofs.marks.mark_at.Goals as goal
 
-pub returns-then-next-text : goal.returns-then-next-text
-returns-then-next-text c = let a = c.args in
-    mark-last a.text.now a.start _ c.mark_one-one.ensures c.if-next-text.true
+pub returns-in-Some : goal.returns-in-Some
+returns-in-Some c =
+    let s = c.args.text.now in
+    let p = c.args.start in
+    let inside : p + 1 < length s = search rules in
+    let pair : Some c.in-Some.kind ≡ unless_none (mark_of (get_or s p 0 ∷ get_or s (p + 1) 0 ∷ [])) = search rules in
+    mark-pair s p c.in-Some.kind inside pair
 
-pub returns-then-two-eq-BAD : goal.returns-then-two-eq-BAD
-returns-then-two-eq-BAD c = let a = c.args in
-    mark-single a.text.now a.start _ c.mark_one-one.ensures
-    _ c.mark_two-two.ensures (omega arith) c.if-two-eq-BAD.true
-
-pub returns : goal.returns
-returns c = let a = c.args in
-    mark-pair a.text.now a.start _ c.mark_one-one.ensures
-    _ c.mark_two-two.ensures (omega arith) c.if-two-eq-BAD.false
+pub returns-in-None : goal.returns-in-None
+returns-in-None c =
+    let s = c.args.text.now in
+    let p = c.args.start in
+    let single : (length s ≤ p + 1) ⊎ (None ≡ unless_none (mark_of (get_or s p 0 ∷ get_or s (p + 1) 0 ∷ []))) = search rules in
+    rw (c.unwrap_or.ensures, c.mark_one.ensures) (mark-single s p single)

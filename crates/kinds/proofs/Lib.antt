@@ -1,0 +1,2 @@
+-- what an answer `unless` says of the number
+pub mod Unless
