@@ -5,7 +5,8 @@ ghost use Rattle.std.specs.Prelude.{◌≡◌, length};
 ghost use Rattle.meaning.specs.Words.{words_of};
 ghost use Rattle.recogniser.specs.Refusal.{refusal_of, number_in, place_in};
 
-// A refusal number and a place; 0 and 0 where there is no refusal. C reads it, so it stays a pair of numbers.
+// A refusal number and a place; 0 and 0 where there is no refusal.
+// kept: a pair of numbers: C reads it.
 #[repr(C)]
 #[derive(Clone, Copy)]
 pub struct Answer {

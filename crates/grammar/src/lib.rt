@@ -1,6 +1,6 @@
 // The recogniser of the policy grammar (meaning/specs/Grammar.antt): a table of states and a count of open parentheses.
-// What is left of the grammar behind the words so far is `regex` of the state and the count. Where nothing is left there is no state: no
-// text of the grammar begins with these words, which is refusal 3.
+// What is left of the grammar behind the words so far is `regex` of the state and the count. A word behind which nothing is left leads
+// to no state: no text of the grammar begins with these words, which is refusal 3.
 #![tactic(auto)]
 
 ghost use Rattle.std.specs.Prelude.{◌≡◌, ◌+◌, ◌<◌, ◌^◌};
@@ -13,11 +13,12 @@ use kinds::Kind;
 pub mod table; // the states, written by tools/states.py
 
 // A state of the table, and how many more parentheses are open where it stands within those of an expression.
+// kept: the state by its number: tools/states.py numbers the rows of the table, and a name for each is no plainer.
 #[derive(Clone, Copy, Debug, PartialEq, Eq)]
 pub struct State {
     pub s: u8,
     pub depth: usize,
-    ghost known: { s < state_count },
+    pub ghost known: { s < state_count },
 }
 
 impl State {
@@ -44,15 +45,18 @@ impl State {
 // Where words lead: the table of the states, made once and lent.
 #[derive(Drop)]
 pub struct Transitions {
-    next: [u8; table::TABLE_SIZE],
-    ghost laid: { next ≡ next_table },
+    pub next: [u8; table::TABLE_SIZE],
+    pub ghost laid: { next ≡ next_table },
 }
 
 impl Transitions {
     ghost use Rattle.grammar.specs.Led.{Led};
 
     // The table, laid out from its entries.
-    pub fn new() -> Transitions {
+    // kept: an entry is three bytes in one number: with an array of arrays the check stops at its limit of steps.
+    pub fn new() -> Transitions
+        ensures { result.next ≡ next_table }
+    {
         let mut next = [0; table::TABLE_SIZE];
         for e in table::EDGES {
             next[e / 65536 * table::ROW + e / 256 % 256] = (e % 256) as u8;

@@ -1,5 +1,4 @@
-// The kinds of words: numbers with names, those of meaning's Keywords. A kind is any byte: the functions above answer for each, and most
-// bytes are the kind of no word. So this is a number with a type of its own, and no enum of the kinds that words have.
+// The kinds of words: numbers with names, those of meaning's Keywords. A kind is any byte, and most bytes are the kind of no word.
 #![tactic(auto)]
 
 ghost use Rattle.std.specs.Prelude.{◌≡◌, ℕ};
@@ -9,6 +8,7 @@ ghost use Rattle.meaning.specs.Statements.{saying};
 use std::marker::Model;
 
 // The kind of a word. Clauses read it as its number.
+// kept: a number, in a type of its own, and no enum: `reading::Seen::step`, `Counts::count` and `exceeds` answer for every byte.
 #[derive(Clone, Copy, Debug, PartialEq, Eq, PartialOrd, Ord)]
 pub struct Kind(pub u8);
 

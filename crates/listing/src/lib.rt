@@ -29,6 +29,7 @@ pub struct Listed {
 }
 
 // The rows so far, and whether the form of the last statement stands in its row.
+// kept: a flag that goes with no value: an Option of that statement's number would say `statements` again.
 #[derive(Clone, Copy, Debug, PartialEq, Eq)]
 pub struct Rows {
     pub statements: usize,

@@ -8,7 +8,7 @@ ghost use Rattle.listing.specs.Answers.{FormPut, Ended, ItemPut, StmtPut, RoomFo
 
 use crate::branch::Branch;
 use crate::carry::Track;
-use crate::row::{self, BYTE, put_row};
+use crate::row::{self, put_row};
 use crate::{ROOM, Rows};
 use kinds::Kind;
 use reading::Seen;
@@ -18,7 +18,7 @@ use words::Span;
 fn begins(k: Kind) -> bool
     ensures { result ≡ (keywords.starts k && not (eqb k k_else)) }
 {
-    k.starts() & !matches!(k, Kind::ELSE)
+    k.starts() & (k != Kind::ELSE)
 }
 
 // kept: the two arrays are passed beside the rows: a struct of them all must say in each clause which references it keeps, and what
@@ -65,7 +65,7 @@ impl Rows {
         ensures { ItemPut items.old items.new self.old self.new st w }
     {
         let length = w.end - w.start;
-        let kind = u16::from(w.kind.0) + BYTE * u16::from(st.sign.0);
+        let kind = u16::from_le_bytes([w.kind.0, st.sign.0]);
         let row = [w.start as u16, length as u16, kind, u16::from(st.pos.0)];
         put_row(items, self.items, row);
         self.items += 1;

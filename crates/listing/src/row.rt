@@ -1,4 +1,6 @@
 // Rows of four numbers in a lent array: one is put in, or read as an item or as a statement.
+// kept: numbers one after the other, and no array of structs: the caller lends the room (nothing is allocated), and
+// `names::first_places` reads the same rows.
 ghost use Rattle.std.specs.Prelude.{◌≡◌, ◌+◌, ◌*◌, ◌<◌, ◌≤◌, length, set, get_or};
 ghost use Rattle.listing.specs.Branches.{most};
 ghost use Rattle.listing.specs.Listed.{behind_items};
@@ -12,19 +14,13 @@ use reading::positions::{Position, Sign};
 // Numbers in a row.
 pub const WIDTH: usize = 4;
 
-// Two bytes in one number.
-pub const BYTE: u16 = 256;
-
 // Puts a row in.
 pub fn put_row(l: &mut [u16; ROOM], i: usize, row: [u16; WIDTH])
     requires { i < most }
     ensures { RowPut l.old l.new i (get_or row 0 0) (get_or row 1 0) (get_or row 2 0) (get_or row 3 0) }
 {
     let at = WIDTH * i;
-    l[at] = row[0];
-    l[at + 1] = row[1];
-    l[at + 2] = row[2];
-    l[at + 3] = row[3];
+    l[at..at + WIDTH].copy_from_slice(&row);
 }
 
 // Puts another form into the row of a statement.
@@ -56,7 +52,7 @@ pub struct StmtRow {
     pub end: usize,
 }
 
-// Item `i`.
+// Item `i`. Its kind and its sign are the two bytes of one number.
 #[tactic(auto, unfolding(crate::specs::Answers::item_of_row, crate::specs::Listed::item_at))]
 pub fn item_at(items: &[u16; ROOM], i: usize) -> ItemRow
     requires { i < most }
@@ -65,14 +61,14 @@ pub fn item_at(items: &[u16; ROOM], i: usize) -> ItemRow
     let at = WIDTH * i;
     let start = usize::from(items[at]);
     let length = usize::from(items[at + 1]);
-    let kind = items[at + 2];
-    let pos = items[at + 3];
+    let [kind, sign] = items[at + 2].to_le_bytes();
+    let [pos, _] = items[at + 3].to_le_bytes();
     ItemRow {
         start,
         end: start + length,
-        kind: Kind((kind % BYTE) as u8),
-        sign: Sign((kind / BYTE) as u8),
-        pos: Position((pos % BYTE) as u8),
+        kind: Kind(kind),
+        sign: Sign(sign),
+        pos: Position(pos),
     }
 }
 
@@ -98,8 +94,9 @@ impl Listed {
         ensures { StmtRead stmts.now self.statements self.items j result }
     {
         let at = WIDTH * j;
+        let [form, _] = stmts[at].to_le_bytes();
         StmtRow {
-            form: Kind((stmts[at] % BYTE) as u8),
+            form: Kind(form),
             at: usize::from(stmts[at + 1]),
             branch: Branch(stmts[at + 2]),
             first: usize::from(stmts[at + 3]),

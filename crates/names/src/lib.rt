@@ -8,6 +8,7 @@ ghost use Rattle.names.specs.Names.{bytes_at, first_as, earlier_as, firsts};
 ghost use Rattle.names.specs.Chains.{slots, slot_of, row_at, Heads, Nexts};
 
 // How many chains there are. The slot of a name says in which it hangs.
+// kept: chains in lent arrays, and no HashMap: nothing is allocated.
 pub const SLOTS: usize = 1024;
 
 // The factor of the slots: names that differ in a digit or two get slots of their own.

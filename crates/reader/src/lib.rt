@@ -41,6 +41,7 @@ impl<'a> WordReader<'a> {
 }
 
 // The first word of a text, with the keywords lent.
+// kept: beside `first_word`, of which it is all but the making of the keywords; likewise `second_of`.
 pub fn first_of(keys: &Keywords, text: &[u8]) -> Span
     ensures { result ≡ span_of (word_at text.now 0) }
 {

@@ -15,6 +15,7 @@ pub mod sizes; // sizes.rt: what a word counts for, and whether it goes past a s
 
 // The reading of a statement: its keyword (0 outside one), the position, what the next name stands behind, whether a braced list
 // is open, the open parentheses of an expression. Clauses read it as the definitions' own.
+// kept: 0 for no keyword and no Option: `step` answers for every byte there, as the definitions do.
 #[derive(Clone, Copy, Debug, PartialEq, Eq)]
 pub struct Seen {
     pub kw: Kind,

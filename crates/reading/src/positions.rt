@@ -1,10 +1,10 @@
 // The positions in a statement and what a name stands behind, under the names of meaning's Statements: numbers with types of their own.
-// A position is any byte: it is counted up behind each part, and the functions of this crate answer for each.
 ghost use Rattle.std.specs.Prelude.{◌≡◌, ℕ};
 
 use std::marker::Model;
 
 // A position in a statement. Clauses read it as its number.
+// kept: a number and no enum: it is counted up behind each part, and `Seen::step` answers for every byte.
 #[derive(Clone, Copy, Debug, PartialEq, Eq, PartialOrd, Ord)]
 pub struct Position(pub u8);
 
@@ -44,6 +44,7 @@ impl Position {
 }
 
 // What a name stands behind: nothing, `-` or `~`. Clauses read it as its number.
+// kept: a number and no enum: `Seen::step` answers for every byte, and rows hold any.
 #[derive(Clone, Copy, Debug, PartialEq, Eq)]
 pub struct Sign(pub u8);
 

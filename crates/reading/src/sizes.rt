@@ -1,4 +1,4 @@
-// What a word counts for, and whether it goes past a size: meaning's Sizes, on numbers.
+// What a word counts for, and whether it goes past a size: meaning's Sizes.
 ghost use Rattle.std.specs.Prelude.{◌≡◌, ℕ, ◌<◌, length};
 ghost use Rattle.meaning.specs.Words.{Word};
 ghost use Rattle.meaning.specs.Sizes.{name_count, form_count, count_of, counted, no_counts};
@@ -27,11 +27,12 @@ pub enum Total {
     RoleRules,
     Ifs,
     Constrains,
-    // What most words count for: nothing is said of its total.
+    // What most words count for. kept: a variant and no Option, since `counted` of the definitions counts it too.
     Nothing,
 }
 
-// In that order; 31 roles beside `object_r`.
+// The sizes, in that order; 31 roles beside `object_r`. Nothing has none.
+// kept: a list beside the enum: with a match on it the recogniser takes 2.32 times the words, with this 2.18.
 const LIMITS: [u16; 13] = [128, 32, 32, 32, 8, 31, 32, 16, 512, 128, 64, 32, 32];
 
 const LONGEST_NAME: usize = 63;

@@ -1,5 +1,5 @@
 // Runs the recogniser over the texts of the file `cases`, and writes a line for each: the number and the place.
-// In the file each text stands behind its length: five decimal digits and an LF. What is no such number ends the run.
+// In the file each text stands behind its length: five decimal digits and an LF. A length past what is left ends the run.
 #![tactic(auto)]
 
 ghost use Rattle.std.specs.Prelude.{◌≤◌, ◌<◌, length};
@@ -17,6 +17,7 @@ const ROOM: usize = 262144;
 const DIGITS: usize = 5;
 
 // The bytes that the reader gives, as many as there is room for; a read that fails ends them.
+// kept: a loop and a count: std reads on to the end of a file into a Vec alone, and this reads no further than its room.
 fn read_full<R: Read>(reader: &mut R, all: &mut [u8]) -> usize
     ensures { result ≤ length all.old }
 {

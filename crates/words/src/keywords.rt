@@ -17,7 +17,7 @@ const WIDTH: usize = 16;
 const BYTES: usize = SLOTS + COUNT;
 
 // The size of the table.
-const SIZE: usize = BYTES + COUNT * WIDTH;
+pub const SIZE: usize = BYTES + COUNT * WIDTH;
 
 // The kind of the first keyword; the others follow in the table's order.
 const FIRST: u8 = Kind::CLASS.0;
@@ -89,13 +89,15 @@ fn slot_of(word: &[u8]) -> usize
 // The table of the keywords: made once, and lent to whatever reads words.
 #[derive(Drop)]
 pub struct Keywords {
-    table: [u8; SIZE],
-    ghost made: { table ≡ key_table },
+    pub table: [u8; SIZE],
+    pub ghost made: { table ≡ key_table },
 }
 
 impl Keywords {
     #[tactic(auto, unfolding(crate::specs::Keys::key_table, crate::specs::Keys::key_entry, crate::specs::Keys::keyword, crate::specs::Keys::slot_of, meaning::specs::Keywords::keywords, meaning::specs::Keywords::bytes))]
-    pub fn new() -> Keywords {
+    pub fn new() -> Keywords
+        ensures { result.table ≡ key_table }
+    {
         Keywords { table: KEYS }
     }
 

@@ -24,6 +24,7 @@ pub struct Span {
 }
 
 // The word at or behind `at`. Where none is left its kind is END, and it is empty, at the text's end or at `at` past that.
+// kept: END and no Option: the answer says where the text ends. `Words` gives None there.
 pub fn word_at(keys: &Keywords, text: &[u8], at: usize) -> Span
     ensures value { result ≡ span_of (word_at text.now at) }
     ensures placed { Placed text.now at result }

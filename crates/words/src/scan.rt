@@ -5,7 +5,8 @@ ghost use Rattle.words.specs.Spans.{unless_stopped};
 
 use std::marker::Model;
 
-// What a scan is in: a number, as in the definitions. A scan in any other number is as in NAMING.
+// What a scan is in. A scan in any other number is as in NAMING. Clauses read it as its number.
+// kept: a number and no enum: `scan_to` answers for every byte.
 #[derive(Clone, Copy, Debug, PartialEq, Eq)]
 pub struct Scan(pub u8);
 
@@ -65,6 +66,7 @@ impl Scan {
     }
 }
 
+// kept: a scan that is told what it is in: the state changes within a scan, and no part of it is a function of the caller's.
 // The place, from `at` on, at which a scan stops; the text's end, or `at` past that, where no byte stops it.
 pub fn scan_to(text: &[u8], at: usize, scan: Scan) -> usize
     ensures { result ≡ scan_to scan at (drop at text.now) }
