@@ -57,7 +57,7 @@ pub fn minus_into(dst: &mut [u32], src: &[u32])
 }
 
 // The lowest number in a word; 32 where it has none.
-// kept: 32 and no Option, as std's `trailing_zeros`.
+// kept: 32 and no Option, as std's `trailing_zeros`; a cast, since std has no `From` of a u32 for usize.
 pub fn lowest_bit(w: u32) -> usize
     ensures is { result ≡ count_trailing_zeros 32 w }
     ensures within { result ≤ 32 }

@@ -8,7 +8,7 @@ ghost use Rattle.recogniser.specs.Refusal.{refusal_of, number_in, place_in};
 // A refusal number and a place; 0 and 0 where there is no refusal.
 // kept: a pair of numbers: C reads it.
 #[repr(C)]
-#[derive(Clone, Copy)]
+#[derive(Clone, Copy, Debug, PartialEq, Eq)]
 pub struct Answer {
     pub number: u32,
     pub place: usize,

@@ -53,7 +53,8 @@ impl Transitions {
     ghost use Rattle.grammar.specs.Led.{Led};
 
     // The table, laid out from its entries.
-    // kept: an entry is three bytes in one number: with an array of arrays the check stops at its limit of steps.
+    // kept: an entry is three bytes in one number: with an array of arrays the check stops at its limit of steps. The cast
+    // takes the lowest of the three.
     pub fn new() -> Transitions
         ensures { result.next ≡ next_table }
     {

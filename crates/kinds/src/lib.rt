@@ -9,6 +9,7 @@ use std::marker::Model;
 
 // The kind of a word. Clauses read it as its number.
 // kept: a number, in a type of its own, and no enum: `reading::Seen::step`, `Counts::count` and `exceeds` answer for every byte.
+// Its `impl Model` is that of `Position`, `Sign` and `Scan` too: `rt ci` refuses an impl that a macro writes.
 #[derive(Clone, Copy, Debug, PartialEq, Eq, PartialOrd, Ord)]
 pub struct Kind(pub u8);
 

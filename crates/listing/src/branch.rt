@@ -8,6 +8,8 @@ ghost use Rattle.listing.specs.Branches.{most, branch_of, branch_number, number-
 use std::marker::Model;
 
 // The number of a branch. Clauses read it as the branch.
+// kept: a number and no enum: a row holds any u16, and each is a branch; of an enum, the number of an if needs a bound before it fits
+// a row.
 #[derive(Clone, Copy, Debug)]
 pub struct Branch(pub u16);
 
@@ -36,6 +38,7 @@ impl Branch {
         requires { i < most }
         ensures { result ≡ when_true i }
     {
+        // kept: a cast, here and in put.rt: the number fits, and `try_from` gives a Result to unwrap.
         Branch((2 * i + 1) as u16)
     }
 

@@ -16,6 +16,7 @@ pub mod carry; // what is carried from word to word: the reading, the ifs, the b
 pub mod put; // what a word puts into the rows
 
 // The bytes of the longest text. Each word has one, so there are no more statements or items.
+// kept: a number also in the recogniser, of which this crate takes nothing.
 pub const MOST: usize = 32768;
 
 // The size of each of the two arrays, for callers.
@@ -37,6 +38,7 @@ pub struct Rows {
     pub known: bool,
 }
 
+// kept: keywords and text are two parameters here and where a word is read: the keywords are made once for all texts; `Words` holds both.
 // Lists the statements of the text. What the arrays hold behind the rows is not said. The form of a statement that breaks off is 0.
 pub fn list_statements<'a>(
     keys: &'a Keywords,

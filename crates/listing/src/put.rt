@@ -15,6 +15,7 @@ use reading::Seen;
 use words::Span;
 
 // A word of kind k begins a statement that is listed.
+// kept: `Seen::says` asks the same of its keyword: one more public function of another crate would save half a line.
 fn begins(k: Kind) -> bool
     ensures { result ≡ (keywords.starts k && not (eqb k k_else)) }
 {
@@ -60,6 +61,7 @@ impl Rows {
     }
 
     // The word as an item of the open statement.
+    // kept: `w.start ≤ w.end` is asked here and of `Reading::take`: a ghost field of the public type Span would ask it of all who make one.
     fn put_item(&mut self, items: &mut [u16; ROOM], st: Seen, w: Span)
         requires { (self.old.items < most) × (w.start ≤ w.end) × (w.end ≤ most) }
         ensures { ItemPut items.old items.new self.old self.new st w }

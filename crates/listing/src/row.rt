@@ -33,7 +33,7 @@ pub fn put_form(l: &mut [u16; ROOM], i: usize, form: u16)
 }
 
 // An item as its row has it: its first byte, the place behind its last, its kind, what it stands behind, its position.
-#[derive(Clone, Copy, Debug)]
+#[derive(Clone, Copy, Debug, PartialEq, Eq)]
 pub struct ItemRow {
     pub start: usize,
     pub end: usize,
@@ -43,6 +43,7 @@ pub struct ItemRow {
 }
 
 // A statement as its row has it: its form, its place, its branch, its first item and the one behind its last.
+// kept: the form is BAD and no Option where the statement is not whole, as in the definitions' statement.
 #[derive(Clone, Copy, Debug)]
 pub struct StmtRow {
     pub form: Kind,
@@ -53,6 +54,7 @@ pub struct StmtRow {
 }
 
 // Item `i`. Its kind and its sign are the two bytes of one number.
+// kept: two in one number: a row has four, and `item_at` and `list_statements` promise what these hold.
 #[tactic(auto, unfolding(crate::specs::Answers::item_of_row, crate::specs::Listed::item_at))]
 pub fn item_at(items: &[u16; ROOM], i: usize) -> ItemRow
     requires { i < most }
@@ -88,6 +90,8 @@ impl Listed {
     }
 
     // Statement `j`.
+    // kept: `statements ≤ most` is asked here and in put.rt: in the public types Listed and Rows a ghost field would ask it of all who
+    // make one.
     #[tactic(auto, unfolding(crate::specs::Answers::stmt_of_row, crate::specs::Listed::stmt_at, crate::specs::Listed::behind_items))]
     pub fn stmt_at(self, stmts: &[u16; ROOM], j: usize) -> StmtRow
         requires { (self.statements ≤ most) × (j < self.statements) }

@@ -65,7 +65,7 @@ pub record Decl : Type 0 where
 unfoldable pub decl_of : Statement → Item → Decl
 decl_of st i = record { kind = declares st i; at = i.at; text = i.text }
 
--- "the predeclared `object_r`", before every name of the text; so "declaring `object_r` .. is 6"
+-- "the predeclared `object_r`", before every name of the text; so "Declaring `object_r` .. is 6"
 unfoldable pub object_r : Decl
 object_r = record { kind = d_role; at = 0; text = bytes "object_r" }
 

@@ -40,7 +40,7 @@ switch p x v =
     then record { number = accepted; policy = with_bools p (set p.bools x v) }
     else record { number = no_boolean; policy = p }
 
--- "any run of switch calls, refused ones included", of which the third demand speaks
+-- a run of switch calls, refused ones included: demand 3 of README.md speaks of it
 pub record Call : Type 0 where
   pub bool : List ℕ
   pub on : Bool

@@ -31,7 +31,7 @@ fn row(link: u16) -> Option<usize>
 
 // The names of a text, a row for each. A row is four entries of `items`, of which the first two count here: the place of the name's first
 // byte and how many bytes it has. A name that would go past the text's end stops there.
-#[derive(Clone, Copy)]
+#[derive(Clone, Copy, Debug)]
 pub struct Rows<'a> {
     pub text: &'a [u8],
     pub items: &'a [u16],
@@ -39,6 +39,7 @@ pub struct Rows<'a> {
 
 impl<'a> Rows<'a> {
     // The name of row i.
+    // kept: `4 * i + 1 < length items` is asked of each function of a row: it is a fact about i, which a type of the rows cannot say.
     #[tactic(auto, unfolding(crate::specs::Names::bytes_at))]
     fn name(self, i: usize) -> &'a [u8]
         requires { 4 * i + 1 < length self.items.now }
@@ -89,6 +90,7 @@ impl<'a> Rows<'a> {
         let h = slot(word);
         nexts[i] = heads[h];
         match self.find(nexts, i, word) {
+            // kept: a cast: the number fits, and `try_from` gives a Result to unwrap.
             Some(j) => j as u16,
             None => {
                 heads[h] = (i + 1) as u16;

@@ -11,7 +11,7 @@ use words::Span;
 use words::keywords::Keywords;
 
 // A text and the place reached in it.
-#[derive(Clone, Copy)]
+#[derive(Clone, Copy, Debug)]
 pub struct WordReader<'a> {
     pub text: &'a [u8],
     pub at: usize,

@@ -18,6 +18,7 @@ const DIGITS: usize = 5;
 
 // The bytes that the reader gives, as many as there is room for; a read that fails ends them.
 // kept: a loop and a count: std reads on to the end of a file into a Vec alone, and this reads no further than its room.
+// A read that gives 0 is the end, as std's `Read` says.
 fn read_full<R: Read>(reader: &mut R, all: &mut [u8]) -> usize
     ensures { result ≤ length all.old }
 {

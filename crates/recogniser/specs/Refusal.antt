@@ -4,7 +4,8 @@
 --   refusal_of s     the answer for the bytes s
 --   number_of, place_of   01's number of a refusal, and its place
 --   number_in, place_in   the same of an answer: 0 and 0 where the text stands
-use Rattle.std.specs.Prelude.{ℕ, List, ltb, length, Result, Ok, Err, if◌then◌else◌}
+--   shown r          the bytes that show it: the number and the place, a space between them
+use Rattle.std.specs.Prelude.{ℕ, List, ◌∷◌, ◌++◌, decimal, ltb, length, Result, Ok, Err, if◌then◌else◌}
 use Rattle.meaning.specs.Words.{words_of}
 use Rattle.meaning.specs.Sizes.{Verdict, fits, ungrammatical, oversize, read_text}
 use Rattle.meaning.specs.Load.{text_size}
@@ -39,3 +40,6 @@ number_in (Err r) = number_of r
 abbrev pub place_in : Result (Unit {0}) Refusal → ℕ
 place_in (Ok t) = 0
 place_in (Err r) = place_of r
+
+abbrev pub shown : Refusal → List ℕ
+shown r = decimal (number_of r) ++ 32 ∷ decimal (place_of r)

@@ -2,11 +2,11 @@
 // The text is read once, word by word, by the table of states, the position in the statement and the counts.
 #![tactic(auto)]
 
-ghost use Rattle.std.specs.Prelude.{◌≡◌, List, [], ℕ, ◌+◌, ◌≤◌, ◌<◌, ◌^◌, length};
+ghost use Rattle.std.specs.Prelude.{◌≡◌, List, [], ℕ, ◌+◌, ◌≤◌, ◌<◌, ◌^◌, length, Some};
 ghost use Rattle.meaning.specs.Words.{Word};
 ghost use Rattle.words.specs.Spans.{span_of};
 ghost use Rattle.reading.specs.Counts.{Room};
-ghost use Rattle.recogniser.specs.Refusal.{of_verdict, refusal_of, number_of, place_of};
+ghost use Rattle.recogniser.specs.Refusal.{of_verdict, refusal_of, number_of, place_of, shown};
 ghost use Rattle.recogniser.specs.Turn.{ahead, Begun, Taken};
 
 use grammar::{State, Transitions};
@@ -52,7 +52,10 @@ impl Refusal {
     }
 }
 
+// The number and the place, a space between them.
 impl fmt::Display for Refusal {
+    ghost output = { λ r. Some (shown r) };
+
     fn fmt<W: fmt::Write>(&self, f: &mut fmt::Formatter<W>) -> fmt::Result {
         write!(f, "{} {}", self.number(), self.place())
     }

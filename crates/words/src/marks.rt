@@ -31,7 +31,8 @@ fn mark_one(b: u8) -> Option<Kind>
 }
 
 // The kind of the mark that two bytes make.
-// kept: apart from `mark_one`: one match over a part of the text proves too, and all words take a third longer with it.
+// kept: apart from `mark_one`: one match over a part of the text proves too, and all words take a third longer with it,
+// where a tenth is the bar (docs/DECISIONS.md).
 #[tactic(auto, using(crate::proofs::Marked::if_same), unfolding(meaning::specs::Keywords::mark_of, meaning::specs::Keywords::kind_from, meaning::specs::Keywords::marks, meaning::specs::Keywords::bytes))]
 fn mark_two(a: u8, b: u8) -> Option<Kind>
     ensures { result ≡ unless_none (mark_of (a ∷ b ∷ [])) }
