@@ -39,7 +39,7 @@ pub fn union_into(dst: &mut [u32], src: &[u32])
     requires { length dst.old ≡ length src.now }
     ensures { dst.new ≡ zip_with bit_or dst.old src.now }
 {
-    // kept: src by an index: of a loop over iter_mut().zip(src) a proof does not learn what dst holds behind it
+    // kept: src by an index, here and in minus_into: of a loop over iter_mut().zip(src) a proof does not learn what dst holds behind it
     for (i, d) in dst.iter_mut().enumerate() {
         *d |= src[i];
     }

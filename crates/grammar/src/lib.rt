@@ -54,7 +54,7 @@ impl Transitions {
 
     // The table, laid out from its entries.
     // kept: an entry is three bytes in one number: with an array of arrays the check stops at its limit of steps. The cast
-    // takes the lowest of the three.
+    // takes the lowest of the three. 0 where a state has no such word: `step` answers an Option of it.
     pub fn new() -> Transitions
         ensures { result.next ≡ next_table }
     {

@@ -38,7 +38,7 @@ impl Branch {
         requires { i < most }
         ensures { result ≡ when_true i }
     {
-        // kept: a cast, here and in put.rt: the number fits, and `try_from` gives a Result to unwrap.
+        // kept: a cast, here and in when_false: the number fits, and `try_from` gives a Result to unwrap.
         Branch((2 * i + 1) as u16)
     }
 

@@ -54,6 +54,7 @@ impl Rows {
         requires { (self.old.statements < most) × (self.old.items < most) × (at ≤ most) }
         ensures { StmtPut stmts.old stmts.new self.old self.new at branch }
     {
+        // kept: casts, here and in put_item: the numbers fit, and `try_from` gives a Result to unwrap.
         let row = [0, at as u16, branch.0, self.items as u16];
         put_row(stmts, self.statements, row);
         self.statements += 1;

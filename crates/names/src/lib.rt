@@ -23,6 +23,7 @@ fn slot(word: &[u8]) -> usize
 }
 
 // The row that a link leads to: the link is one more, and 0 leads to none.
+// kept: links are numbers, since the caller lends them, all 0 at first.
 fn row(link: u16) -> Option<usize>
     ensures { result ≡ row_at link }
 {
@@ -90,7 +91,7 @@ impl<'a> Rows<'a> {
         let h = slot(word);
         nexts[i] = heads[h];
         match self.find(nexts, i, word) {
-            // kept: a cast: the number fits, and `try_from` gives a Result to unwrap.
+            // kept: three casts: the numbers fit, and `try_from` gives a Result to unwrap.
             Some(j) => j as u16,
             None => {
                 heads[h] = (i + 1) as u16;

@@ -171,7 +171,7 @@ impl Counts {
         requires { Room 65534 self.old }
         ensures { self.new ≡ counted st k self.old }
     {
-        let total = st.count_of(k) as usize; // kept: a cast, which is how an enum gives its number
+        let total = st.count_of(k) as usize; // kept: a cast, here and in past_total: an enum's number
         self.totals[total] += 1;
         if k.starts() {
             self.own = 0;

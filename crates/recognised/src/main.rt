@@ -34,6 +34,7 @@ fn read_full<R: Read>(reader: &mut R, all: &mut [u8]) -> usize
 }
 
 // The whole file, or nothing where it cannot be opened.
+// kept: 0 and no Result where it cannot be opened or read on: the program takes what it has, as it did.
 fn read_cases(rt: &impl Files, all: &mut [u8]) -> usize
     ensures { result ≤ length all.old }
 {

@@ -42,6 +42,7 @@ impl Refusal {
     }
 
     // Its place; 0 for a text that is too long.
+    // kept: 0 and no Option, as in the definitions, which give each refusal a place.
     pub fn place(self) -> usize
         ensures { result ≡ place_of self }
     {

@@ -24,7 +24,8 @@ const FIRST: u8 = Kind::CLASS.0;
 
 // In each slot the number of the keyword that has it, or COUNT; the lengths of the keywords; their bytes, filled up with spaces.
 // Written by tools/keywords.py from the definitions' list.
-// kept: one array: of three in a struct each needs its own equality with the definitions, and the script writes them as one.
+// kept: one array: of three in a struct each needs its own equality with the definitions, and the script writes them as one; COUNT
+// and no Option, since a slot is a byte.
 const KEYS: [u8; SIZE] = *b"\
     \x26\x26\x26\x26\x26\x12\x26\x11\x26\x26\x0a\x26\x17\x26\x26\x26\
     \x0b\x26\x26\x0c\x26\x04\x26\x26\x26\x26\x26\x1d\x26\x26\x26\x1b\

@@ -66,13 +66,13 @@ impl Scan {
     }
 }
 
-// kept: a scan that is told what it is in: the state changes within a scan, and no part of it is a function of the caller's; a `for` over
-// the places, since `iter().enumerate().skip(at)` is no plainer and its invariant is longer.
+// kept: a scan that is told what it is in: the state changes within a scan, and no part of it is a function of the caller's.
 // The place, from `at` on, at which a scan stops; the text's end, or `at` past that, where no byte stops it.
 pub fn scan_to(text: &[u8], at: usize, scan: Scan) -> usize
     ensures { result ≡ scan_to scan at (drop at text.now) }
 {
     let mut s = scan;
+    // by places: `iter().enumerate().skip(at)` is no plainer, and its invariant is longer
     for i in at..text.len() {
         match s.after(text[i]) {
             Some(next) => s = next,
