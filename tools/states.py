@@ -311,8 +311,14 @@ pub const AFTER_CONSTRAIN: u8 = {ENDS[1]};
 // A row for each state.
 pub const TABLE_SIZE: usize = {len(states) * KINDS};
 
+pub type Next = [u8; TABLE_SIZE];
+
+pub const EDGE_COUNT: usize = {edge_count};
+
+pub type Edges = [usize; EDGE_COUNT];
+
 // The entries of the table that are not 0: 0xSSKKTT where a word of kind KK leads from state SS to state TT.
-pub const EDGES: [usize; {edge_count}] = [
+pub const EDGES: Edges = [
 {chr(10).join(entries)}
 ];
 """}

@@ -2,19 +2,19 @@
 --   bit-or, bit-and, bit-xor, bit-less   what each operation does to a bit
 --   bits-ext                             a number is known by its bits; bits_below: and its size by where they end
 --   number_bit, number-below             the number that a set makes
---   lowest-digit                         where the lowest bit stands
+--   lowest-digit                         where the lowest bit stands, of 32; trailing-..: of any number of digits
 --   below-cases, same_cases              a case of two numbers' order, for all files here
 -- Assumes nothing.
 use mathlib.Core.Path.{◌≡◌, refl, sym, ap, ◌∙◌}
 use mathlib.Core.Bool.{Bool, true, false, ◌&&◌, ◌||◌, false≢true}
 use mathlib.Core.List.{[], ◌∷◌}
 use Prim.Native.Nat.{ℕ, zero, suc, ◌+◌, ◌*◌, ◌/◌, ◌%◌, ◌^◌, ◌<◌, ◌≤◌, min, max}
-use native.Mathlib.Nat.{le_of_suc-le-suc, not-suc-le-zero, pow-suc, div-lt_iff_lt-mul}
+use native.Mathlib.Nat.{le_of_suc-le-suc, not-suc-le-zero, pow-suc, mod-lt, div-lt_iff_lt-mul}
 use native.Mathlib.Omega.{arith}
 use borrow.Author.Tests.{eq-eqb, ne_eqb, eqb-true, eqb-false, ltb-true, ltb-false}
 use lib.Arith.{digits_mod}
 use lib.Bits.{bit_and, bit_or, bit_xor}
-use lib.Count.{count_trailing_zeros}
+use lib.Count.{count_trailing_zeros, under}
 use lib.Dec.{eqb, ltb, lit<}
 use lib.ListN.{length}
 use lib.Pow.{shr-shr, pow_pos}
@@ -138,3 +138,27 @@ pub lowest-digit : (x : ℕ) → x < 2 ^ 32 → (x ≡ 0 → ⊥) → (count_tra
     × (bit_of x (count_trailing_zeros 32 x) ≡ true) × ((i : ℕ) → i < count_trailing_zeros 32 x → bit_of x i ≡ false)
 lowest-digit x h n =
     let t = bit_at-trailing_zeros w32 x (omega arith) h in (t.0, ap is_one t.1, λ i l. ap is_one (t.2 i l))
+
+-- the same for any number of digits: those below it are clear, it is set, and it is among k digits that are not all clear
+pub trailing-clear : (k x j : ℕ) → j < count_trailing_zeros k x → bit_of x j ≡ false
+unfolding count_trailing_zeros
+trailing-clear zero x j h = absurd (not-suc-le-zero h)
+trailing-clear (suc k) x j h = go (x % 2) refl j h (trailing-clear k (x / 2)) where
+  go : (d : ℕ) → x % 2 ≡ d → (j : ℕ) → j < under d (count_trailing_zeros k (x / 2))
+      → ((j : ℕ) → j < count_trailing_zeros k (x / 2) → bit_of (x / 2) j ≡ false) → bit_of x j ≡ false
+  go zero e zero h f = ap is_one (bit_at_lowest x ∙ e)
+  go zero e (suc j) h f = ap is_one (bit_at-suc x j) ∙ f j (le_of_suc-le-suc h)
+  go (suc d) e j h f = absurd (not-suc-le-zero h)
+
+pub trailing-set : (k x : ℕ) → count_trailing_zeros k x < k → bit_of x (count_trailing_zeros k x) ≡ true
+unfolding count_trailing_zeros
+trailing-set zero x h = absurd (not-suc-le-zero h)
+trailing-set (suc k) x h = go (x % 2) refl h (trailing-set k (x / 2)) where
+  go : (d : ℕ) → x % 2 ≡ d → under d (count_trailing_zeros k (x / 2)) < suc k
+      → (count_trailing_zeros k (x / 2) < k → bit_of (x / 2) (count_trailing_zeros k (x / 2)) ≡ true) → bit_of x (under d (count_trailing_zeros k (x / 2))) ≡ true
+  go zero e h f = ap is_one (bit_at-suc x (count_trailing_zeros k (x / 2))) ∙ f (le_of_suc-le-suc h)
+  go (suc d) e h f = let l : x % 2 < 2 = mod-lt x (lit< tt) in ap is_one (bit_at_lowest x) ∙ eq-eqb (x % 2) 1 (omega arith)
+
+pub trailing_below : (k x : ℕ) → x < 2 ^ k → (x ≡ 0 → ⊥) → count_trailing_zeros k x < k
+trailing_below k x h n = below-cases (count_trailing_zeros k x) k (λ l. l)
+    (λ l. absurd (n (bits-ext k x 0 h (pow_pos k) (λ i b. trailing-clear k x i (omega arith) ∙ sym (bit-none i)))))

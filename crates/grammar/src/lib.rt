@@ -43,9 +43,9 @@ impl State {
 }
 
 // Where words lead: the table of the states, made once and lent.
-#[derive(Drop)]
+#[derive(Clone, Copy, Debug, PartialEq, Eq)]
 pub struct Transitions {
-    pub next: [u8; table::TABLE_SIZE],
+    pub next: table::Next,
     pub ghost laid: { next ≡ next_table },
 }
 

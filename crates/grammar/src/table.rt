@@ -20,8 +20,14 @@ pub const AFTER_CONSTRAIN: u8 = 165;
 // A row for each state.
 pub const TABLE_SIZE: usize = 9688;
 
+pub type Next = [u8; TABLE_SIZE];
+
+pub const EDGE_COUNT: usize = 434;
+
+pub type Edges = [usize; EDGE_COUNT];
+
 // The entries of the table that are not 0: 0xSSKKTT where a word of kind KK leads from state SS to state TT.
-pub const EDGES: [usize; 434] = [
+pub const EDGES: Edges = [
     0x010102, 0x010401, 0x010d03, 0x020540, 0x020c03, 0x020e04, 0x020f04, 0x021003, 0x021103,
     0x030102, 0x030401, 0x030d03, 0x040102, 0x040401, 0x050405, 0x053106, 0x053207, 0x053308,
     0x053409, 0x053508, 0x05360a, 0x053708, 0x060405, 0x063106, 0x063207, 0x063308, 0x063409,

@@ -1,4 +1,5 @@
 -- What the numbers of the rows say, for those who compare them: `ids` begins with the numbers of the first n rows.
+--   first-front    the first n are these numbers
 --   first-at       row i has the number of the first row with its name
 --   first-le       which is at most i
 --   first-own      and that row has its own number
@@ -12,7 +13,8 @@ use mathlib.Core.Path.{◌≡◌, refl, sym, ap, ap₂, ◌∙◌}
 use mathlib.Core.List.{List, ◌++◌}
 use borrow.Author.Tests.{eqb-true, eq-eqb}
 use lib.Dec.{eqb}
-use lib.ListN.{length, get_or, get_or-append}
+use lib.ListN.{length, take, get_or, get_or-append}
+use lib.Seq.{take_at}
 use Rattle.std.proofs.lemmas.Grind.{same_number_lists}
 use Rattle.meaning.specs.Plain.{numbers, up_to, same_bytes}
 use Rattle.meaning.proofs.Lists.{same_test, same_bytes_lem, length-each, get_or-each}
@@ -42,6 +44,9 @@ module _ (s items : List ℕ) (n : ℕ) where
 
   -- ---- what the numbers say
   module _ (d ids : List ℕ) (e : ids ≡ firsts s items n ++ d) where
+    pub first-front : take n ids ≡ firsts s items n
+    first-front = rw e (take_at (firsts s items n) d n length-firsts)
+
     pub first-at : (i : ℕ) → i < n → get_or ids i 0 ≡ first_as s items i
     first-at i h = let l = length-firsts in rw e (get_or-append (firsts s items n) d 0 i (omega arith) ∙ firsts_at i h)
 

@@ -1,5 +1,6 @@
 -- What `count` asks of the counts, and that a loop over the words keeps it:
 --
+--   count-below  every word counts for one of the 14 totals
 --   room-none    there is room at the start
 --   room_next    a word raises no total by more than one; if it goes past no size, the statement's own count stays within 40
 --   room_most    room for n is room for more
@@ -8,16 +9,33 @@ use Prim.Native.Nat.{ℕ, ◌+◌, ◌≤◌, ◌<◌}
 use native.Mathlib.Omega.{arith}
 use Rattle.std.proofs.lemmas.Grind.{common_steps}
 use mathlib.Core.Path.{◌≡◌}
-use mathlib.Core.Bool.{Bool, false, ◌&&◌}
+use mathlib.Core.Bool.{Bool, true, false, ◌&&◌}
 use mathlib.Core.List.{List}
-use lib.Dec.{eqb, ltb}
+use lib.Dec.{eqb, ltb, lit<}
 use lib.ListN.{get_or, set, replicate}
 use Rattle.std.specs.Prelude.{if◌then◌else◌}
 use Rattle.meaning.specs.Words.{Word}
 use Rattle.meaning.specs.Keywords.{starts}
 use Rattle.meaning.specs.Statements.{Seen}
-use Rattle.meaning.specs.Sizes.{Counts, no_counts, count_of, own_limit, counted, exceeds, expression_words}
+use Rattle.meaning.specs.Sizes.{Counts, no_counts, name_count, form_count, count_of, own_limit, counted, exceeds, expression_words}
 use Rattle.reading.specs.Counts.{Room}
+
+-- ---- numbers of a definition by cases
+either-below : (b : Bool) (x y n : ℕ) → x < n → y < n → (if b then x else y) < n
+either-below true x y n p q = p
+either-below false x y n p q = q
+
+name_below : (k p : ℕ) → name_count k p < 14
+unfolding name_count
+name_below k p = search (either-below, lit<, tt) depth 16
+
+form-below : (f : ℕ) → form_count f < 14
+unfolding form_count
+form-below f = search (either-below, lit<, tt) depth 16
+
+pub count-below : (st : Seen) (k : ℕ) → count_of st k < 14
+unfolding count_of
+count-below st k = search (either-below, name_below, form-below, lit<, tt) depth 16
 
 -- ---- the totals
 one_more : (l : List ℕ) (j i : ℕ) → get_or (set l j (get_or l j 0 + 1)) i 0 ≤ get_or l i 0 + 1

@@ -63,3 +63,6 @@ impl Sign {
 
     pub const TILDE: Sign = Sign(2);
 }
+
+// Open parentheses are counted no further than this.
+pub const DEEPEST: u8 = 63;

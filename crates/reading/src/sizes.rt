@@ -138,7 +138,7 @@ impl Seen {
 
 // The counts of a text, word by word: a total for each of the things counted over the whole text, and the count in one statement.
 // Clauses read them as the definitions' own.
-#[derive(Debug, Drop)]
+#[derive(Clone, Copy, Debug, PartialEq, Eq)]
 pub struct Counts {
     pub totals: [u16; 14],
     pub own: u8,
@@ -148,6 +148,8 @@ impl Model for Counts {
     ghost Value = { meaning.Counts };
 
     ghost view = { λ c. record { totals = c.totals; own = c.own } };
+
+    ghost inverse = { λ c. record { totals = c.totals; own = c.own } };
 
     ghost invariant = { λ c. length c.totals ≡ 14 };
 }

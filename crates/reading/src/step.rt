@@ -6,11 +6,8 @@ ghost use Rattle.meaning.specs.Statements as meaning;
 ghost use Rattle.meaning.specs.Statements.{step_e, step_s};
 
 use crate::Seen;
-use crate::positions::{Position, Sign};
+use crate::positions::{DEEPEST, Position, Sign};
 use kinds::Kind;
-
-// Open parentheses are counted no further than this.
-const DEEPEST: u8 = 63;
 
 // One parenthesis deeper, but no deeper than `DEEPEST`.
 fn deeper(depth: u8) -> u8

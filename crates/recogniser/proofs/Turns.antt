@@ -1,18 +1,19 @@
 -- One word of the reading, w, the span of x. `read_from` is opened here only: at a word with which no text of the grammar begins it
 -- comes to 3 (`taken-three`), at one that goes past a size to 7 (`taken-seven`), else it goes on behind the word (`taken-on`): what
--- `take` answers at its returns. `forward` is what `take` asks of the word's span.
+-- `take` answers at its returns. The same of the definition, of any grammar and any counts: `read-three`, `read-seven`, `read-on`, and at
+-- the end, where the grammar decides, `read_whole` and `read_short`. `forward` is what `take` asks of the word's span.
 -- Assumes nothing.
 use Prim.Native.Nat.{ℕ, ◌-◌, ◌≤◌}
 use native.Mathlib.Omega.{arith}
 use mathlib.Core.Path.{◌≡◌, sym, ◌∙◌, ap}
 use mathlib.Core.Bool.{Bool, true, false}
-use mathlib.Core.List.{List, ◌∷◌}
+use mathlib.Core.List.{List, [], ◌∷◌}
 use lib.ListN.{length}
 use Rattle.std.specs.Prelude.{Err}
 use Rattle.meaning.specs.Words.{Word}
-use Rattle.meaning.specs.Grammar.{none, left, is_none}
+use Rattle.meaning.specs.Grammar.{G, none, left, is_none, nullable}
 use Rattle.meaning.specs.Statements.{Seen, step}
-use Rattle.meaning.specs.Sizes.{Counts, counted, exceeds, place_of, read_from}
+use Rattle.meaning.specs.Sizes.{Counts, counted, exceeds, place_of, fits, ungrammatical, oversize, read_from}
 use Rattle.words.specs.declared.Span.{Span}
 use Rattle.words.specs.Spans.{span_of}
 use Rattle.reading.proofs.Room.{room_next}
@@ -22,6 +23,31 @@ use Rattle.recogniser.specs.declared.Reading.{Reading}
 use Rattle.recogniser.specs.declared.Refusal.TheVariants.{NotGrammar, OverSize}
 use Rattle.recogniser.specs.Refusal.{of_verdict}
 use Rattle.recogniser.specs.Turn.{ahead, Gone}
+
+-- ---- of the definition
+module _ (end : ℕ) (g : G) (st : Seen) (c : Counts) (last : ℕ) where
+  pub read_whole : nullable g ≡ true → read_from end g st c last [] ≡ fits
+  unfolding read_from
+  read_whole e = rw (e, read_from)
+
+  pub read_short : nullable g ≡ false → read_from end g st c last [] ≡ ungrammatical end
+  unfolding read_from
+  read_short e = rw (e, read_from)
+
+  module _ (w : Word) (ws : List Word) where
+    pub read-three : is_none (left g w.kind) ≡ true → read_from end g st c last (w ∷ ws) ≡ ungrammatical w.at
+    unfolding read_from
+    read-three e = rw (e, read_from)
+
+    pub read-seven : is_none (left g w.kind) ≡ false → exceeds st w (counted st w.kind c) ≡ true
+        → read_from end g st c last (w ∷ ws) ≡ oversize (place_of st w last)
+    unfolding read_from
+    read-seven e h = rw (e, h, read_from)
+
+    pub read-on : is_none (left g w.kind) ≡ false → exceeds st w (counted st w.kind c) ≡ false
+        → read_from end g st c last (w ∷ ws) ≡ read_from end (left g w.kind) (step st w.kind) (counted st w.kind c) w.at ws
+    unfolding read_from
+    read-on e h = rw (e, h, read_from)
 
 -- w is the span of the word x
 module _ (w : Span) (x : Word) (e : w ≡ span_of x) where

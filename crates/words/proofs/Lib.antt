@@ -3,7 +3,8 @@
 pub mod Scanned
 pub mod Located
 pub mod Behind
--- what holds of every number below a bound
+-- bytes that read the same, and what holds of every number below a bound
+pub mod Same
 pub mod Counted
 -- the answers of `mark_at`, `kind_of` and `word_at`
 pub mod Marked

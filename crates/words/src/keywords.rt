@@ -89,7 +89,7 @@ fn slot_of(word: &[u8]) -> usize
 }
 
 // The table of the keywords: made once, and lent to whatever reads words.
-#[derive(Drop)]
+#[derive(Clone, Copy, Debug, PartialEq, Eq)]
 pub struct Keywords {
     pub table: [u8; SIZE],
     pub ghost made: { table ≡ key_table },
