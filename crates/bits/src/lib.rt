@@ -90,8 +90,7 @@ pub fn low_mask(n: usize) -> u32
 }
 
 // The first word of the set of all numbers below n.
-// kept: beside `low_mask`: `low_mask(n.min(32))` in its place takes 1.4 to 1.9 times as long in `fill_below`, and up to 1.7 times in
-// `no_bit_from`.
+// kept: beside `low_mask`: with `low_mask(n.min(32))` in its place `fill_below` takes 1.3 to 2 times as long, by where the linker puts it.
 fn word_below(n: usize) -> u32
     ensures { result ≡ low_mask (min n 32) }
 {
